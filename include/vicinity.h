@@ -20,8 +20,8 @@
  * - The stack has 64 KiB left.
  * Calls share nothing: any number of threads may call at the same time. Only the calls that judge a
  * text, fill in slots or run a command take memory. They can't be stopped. To check a session of
- * 1,000,000 lines takes about a quarter of a second and 40 MB, and up to 2.5 seconds and 165 MB for
- * the worst logs that are known: bound the length of untrusted input.
+ * 1,000,000 lines takes about 0.15 seconds and 46 MB, and up to one second and 150 MB for the worst
+ * logs that are known (vicinity_run up to 2 seconds, 170 MB): bound the length of untrusted input.
  */
 #ifndef VICINITY_H
 #define VICINITY_H
@@ -38,8 +38,8 @@ extern "C" {
 #define VICINITY_INTERFACE 2u
 
 /* The version of this header, as text and as a number like that of vicinity_version(). */
-#define VICINITY_VERSION "2.0.2"
-#define VICINITY_VERSION_NUMBER 20002u
+#define VICINITY_VERSION "2.0.3"
+#define VICINITY_VERSION_NUMBER 20003u
 
 /*
  * What a call that judges returns: the exit status of `vicinity check`. It is neither true nor

@@ -17,7 +17,7 @@ SCRIPTS = "[console_scripts]\nvicinity-logs = vicinity.__main__:entry\n"
 #: The page that the package fills in; in the repository this makes it.
 PAGE, BUILD = "vicinity/pages/page.html", os.path.join(HERE, "../web/build")
 #: What the page and the package both say: a module of the page.
-SENTENCES, SOURCE = "vicinity/sentences.mjs", os.path.join(HERE, "../web/sentences.mjs")
+SENTENCES, SOURCE = "vicinity/sentences.mjs", os.path.join(HERE, "../web/say/sentences.mjs")
 #: The library in a wheel of its own for a kind of machine; on Windows it has another name.
 LIBRARY, DLL = "vicinity/libvicinity.so.2", "vicinity/vicinity.dll"
 EXECUTABLE, PLAIN = 0o755, 0o644

@@ -41,7 +41,7 @@ $(wasm): $(objects)/wasm64.o $(heap)
 	    --enable-nontrapping-float-to-int --enable-mutable-globals --memory64-lowering -O2 \
 	    --strip-debug --strip-producers $@.64 -o $@
 
-out/web/vicinity.html: $(wasm) $(wildcard web/*) examples/unfinished-count.log
+out/web/vicinity.html: $(wasm) $(wildcard web/* web/*/*) examples/unfinished-count.log
 	web/build $@ $<
 
 $(windows)/vicinity.exe: $(objects)/windows.o targets/windows/link targets/windows/start.c \

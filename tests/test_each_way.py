@@ -6,11 +6,12 @@ from collections import defaultdict
 import pytest
 
 from helpers.runs import COMMANDS, runs_of
+from helpers.shims import ByJavaScript, ByPython
 
 # How many runs there are, in how many parts.
 NUMBER, PARTS, SEED = 3000, 2, 15700
 WAYS = ("library_by_one_call", "library_rattle_by_one_call", "wasm_by_one_call", "commands", "arm",
-        "windows")
+        "windows", "by_python", "by_javascript")
 # The statuses of a command that answers a log, or many.
 ANSWERS = {0, 1, 2, 3}
 STATUSES = {**dict.fromkeys(COMMANDS, ANSWERS), **dict.fromkeys(("simulate", "frame", "spell"),
@@ -37,6 +38,19 @@ def runs(request, once, program, logs):
         (folder / "runs").write_bytes(pickle.dumps(made))
     made = once(f"runs-{seed}-{number}-{request.param}", make)
     return pickle.loads((made / "runs").read_bytes())
+
+
+@pytest.fixture
+def by_python(vicinity):
+    return ByPython()
+
+
+@pytest.fixture
+def by_javascript(wasm_module):
+    one = ByJavaScript(wasm_module)
+    with one.node:
+        yield one
+        one.node.stdin.close()
 
 
 @pytest.mark.slow

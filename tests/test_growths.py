@@ -4,7 +4,8 @@ A few lines of C (tests/c/refuse.c) come between a built program and the C libra
 allocation with one number. A run in which none is refused shows how many there are; each is then
 refused in a run of its own: those of the program's commands on some logs, and those of
 crates/growths, which makes each call that takes memory and that no command makes. By the number of
-sets that are made it is seen that no log is judged more than once."""
+sets of open UIDs that are made it is seen that no log is judged more than once; where a reply isn't
+borne out none is made, so of such a log this says nothing."""
 import random
 import resource
 
@@ -139,7 +140,7 @@ def hostile(name):
 
 
 def judged(growths, refuse, text):
-    """How often a log is judged, and whether it is impossible, from which line on."""
+    """Whether a log is impossible, and from which line on. It isn't judged twice."""
     times, _, answer = counted(growths, refuse, given=text.encode())
     # where the replies aren't borne out no set is made
     fewest = 0 if answer.startswith("impossible") else 1

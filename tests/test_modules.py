@@ -1,5 +1,5 @@
-"""Holds that no two modules of a crate use each other, also not by way of others; and that the
-front page of web/ lists its modules."""
+"""Holds that no two modules of a crate use each other, also not by way of others; that a layer of
+the page uses those below it alone, and the front page of web/ lists its modules."""
 import graphlib
 import re
 
@@ -46,6 +46,16 @@ def test_a_way_back_is_found():
 
 
 def test_the_front_page_of_web_names_each_module():
-    cells = re.findall(r"^\| (`.*?) \|", (TOP / "web/README.md").read_text(), re.M)
-    assert sorted(re.findall(r"`(\w+)`", "".join(cells))) == sorted(
-        file.stem for file in (TOP / "web").glob("*.mjs"))
+    table = (TOP / "web/README.md").read_text().partition("|---|")[2]
+    named = re.findall(r"`((?:\w+/)?\w+)`", table)
+    assert sorted(named) == sorted(str(file.relative_to(TOP / "web").with_suffix(""))
+                                   for file in (TOP / "web").rglob("*.mjs"))
+
+
+def test_a_layer_of_the_page_uses_those_below_it():
+    layers = ["judge", "say", "draw", "web"]
+    for file in (TOP / "web").rglob("*.mjs"):
+        used = re.findall(r'^import .*? from "(.*?)";$', file.read_text(), re.M | re.S)
+        mine = layers.index(file.parent.name)
+        of = [layers.index((file.parent / it).resolve().parent.name) for it in used]
+        assert max(of, default=0) <= mine, file

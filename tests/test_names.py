@@ -18,8 +18,8 @@ NUMBERED = {
     "bindings/rust/vicinity/src/run.rs": r"^    (?P<name>\w+) = (?P<number>\d+),$",
     "bindings/go/names.go": r"C\.VICINITY_COMMAND_(?P<name>\w+)",
     "python/vicinity/_native.py": (r"^COMMANDS = \(([^)]*)\)", r"\"(?P<name>[a-z-]+)\""),
-    "web/library.mjs": (r"^const COMMAND = Object.freeze\(\{([^}]*)\}",
-                        r"\"?(?P<name>[a-z-]+)\"?: (?P<number>\d+)"),
+    "web/judge/library.mjs": (r"^const COMMAND = Object.freeze\(\{([^}]*)\}",
+                              r"\"?(?P<name>[a-z-]+)\"?: (?P<number>\d+)"),
     "commands/vicinity.c": (r"^\} COMMANDS\[\] = (.*?);", r"\{\"(?P<name>[a-z-]+)\", +[A-Z]+\}"),
 }
 #: What each command takes, as commands/vicinity.c says it.

@@ -29,7 +29,7 @@ PLANTED = 8000
 LEAST_SHARE = 20
 # The page is asked for as many as so many of these parts have, and what it claims beyond the
 # library's answer.
-PAGE_PARTS, CLAIMS = 3, 5
+PAGE_PARTS, CLAIMS = 3, 3
 KINDS = ("complete", "absent", "unlisted", "unsettled", "doubtful", "impossible")
 ROOM = 64
 # Of the log with many borders: each mask of so many bits is asked in sixteen slots, all of them so

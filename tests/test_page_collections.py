@@ -175,14 +175,17 @@ def compare(page, told):
     lights = dict(zip(page.texts(".lights dt"), page.texts(".lights dd")))
     is_missing = told["counts"]["missing"] or "Not heard on their shelves" in page.said()
     for light, reading in READINGS.items():
-        holds = not any(log.get(reading) for log in told["logs"])
+        # what is to be counted again says so, and nothing else
+        holds = not any(log.get(reading) and log["field"] == "possible" and not log["open"]
+                        for log in told["logs"])
         wanted = ("still complete" if holds else "others may be here") if is_complete else (
             "the answer may be wrong" if is_missing and not holds else None)
         assert lights.get(light) == (None if "In some log" in lights and holds else wanted), told
     assert not is_complete or "and no others." not in headline or (
         lights["If the reader went deaf"] == "still complete")
-    number = sum(told["counts"][state] for state in ("in place", "there"))
     place = next(it for it in ("In some log", "In place", "Here") if it in lights)
+    number = (sum(bool(it["certain_in"]) for it in told["items"]) if place == "In some log" else
+              sum(told["counts"][state] for state in ("in place", "there")))
     assert lights[place].startswith(f"{number} of {len(told['items'])} item")
     done = sum(log["field"] == "possible" and not log["open"] and not log["hidden"]
                for log in told["logs"])
@@ -198,10 +201,12 @@ def test_a_collection_that_is_complete(page):
     drop(page, {**COMPLETE, "B.log": field(UID_B, asks=2)})
     assert (look(page), page.texts("#told h1")) == (
         "yes", ["All 2 expected items are here, and no others."])
-    assert page.texts(".lights dd") == ["2 of 2 logs", "2 of 2 items", "1 time or more",
+    assert page.texts(".lights dd") == ["2 of 2 logs", "2 of 2 items", "once or more",
                                         "still complete", "still complete"]
     assert page.texts(".holds p")[1].startswith(
         "To go unnoticed, a tag would have had to be missed in 1 slot in the field of A")
+    # fewer than one are none
+    assert page.texts(".holds p")[2].endswith("hid a weaker one, the answer still holds.")
     assert not page.texts(".doubts")
     page.is_readable()
 
@@ -238,7 +243,7 @@ def test_what_is_not_sure_is_not_green(page, why):
 @pytest.mark.parametrize("is_heard", [True, False])
 def test_nothing_is_missing_without_the_light_of_a_deaf_reader(page, is_heard):
     """Nor without that of hidden replies: an item is missing only as far as no tag answered."""
-    drop(page, {**COMPLETE, "A.log": field(UID_B, is_heard=is_heard)})
+    drop(page, {**COMPLETE, "A.log": field(UID_B, is_heard=is_heard, asks=2)})
     assert page.texts("#told h1")[0].startswith("1 item missing")
     lights = dict(zip(page.texts(".lights dt")[2:], page.texts(".lights dd")[2:]))
     assert lights == ({} if is_heard else {"If the reader went deaf": "the answer may be wrong"})
@@ -290,6 +295,7 @@ def test_a_catalogue_that_may_have_been_cut_off(page):
 
 def test_where_others_may_be_hidden_something_is_left_to_ask(page):
     drop(page, {**COMPLETE, "B.log": log_of("I1 RB")})
+    assert page.texts(".steps li")[0] == "Spread out items that lie on each other, and count again."
     assert page.texts(".lights dd")[0] == "1 of 2 logs"
     assert page.texts("#told > details > summary")[:3] == [
         "Ask all once more (1 log)", "Here (2 items)", "Searched to the end (1 log)"]
@@ -356,12 +362,12 @@ def test_an_item_that_only_a_log_of_no_place_proves(page):
     taken from there."""
     drop(page, {"books.csv": BOTH, "B.log": field(UID_B), "cart.log": field(UID_A)})
     assert page.texts("#told h1") == [
-        "1 item heard in a log of no place; no log of A; cart.log is of no place."]
+        "1 item heard in a log of no place; no log of A, unless cart.log is it."]
     page.press("#told > details > summary")
     assert page.texts(".items :is(thead tr + tr, tbody tr)") == [
         "cart.log", "Emma\nA\nE0040100000000A1"]
     drop(page, {"B.log": field(UID_A, UID_B)})
-    assert page.texts("#told h1")[0].startswith("1 item in the wrong place; no log of A;")
+    assert page.texts("#told h1")[0].startswith("1 item in the wrong place; no log of A,")
     assert page.texts(".items :is(thead tr + tr, tbody tr)") == [
         "Shelf B", "take to A; also in cart.log\nEmma\nE0040100000000A1"]
 
@@ -372,14 +378,14 @@ def test_an_item_that_only_a_log_of_no_place_proves(page):
 def test_an_older_log_of_a_shelf(page, uids, words):
     """It says how many tags both prove, and what that may mean."""
     drop(page, {"books.csv": books((UID_A, ",A"), (UID_C, ",A")), "A.log": field(UID_A, UID_C),
-                "A-old.log": field(*uids)})
+                "A-old.log": field(*uids, asks=2)})
     assert words in page.texts(".doubts b")
     assert "an older" in page.texts(".doubts")[0] and look(page) == "no"
 
 
 ALL = (UID_A, UID_B, UID_C)
 # Times of files, in ms: one, and how much earlier another is.
-NOON, HOUR, DAY = 1_795_000_000_000, 3_600_000, 86_400_000
+NOON, HOUR, HALF, DAY = 1_795_000_000_000, 3_600_000, 43_200_000, 86_400_000
 NO_PLACES = books(*[(uid, "") for uid in ALL], head="uid,title")
 ON_B = books(*[(uid, ",B") for uid in ALL])
 # Tables, and a later count in which an item is lost, and the earlier one, by their names.
@@ -432,7 +438,8 @@ def test_what_was_left_out_is_said_until_it_is_back(page):
 
 def test_two_logs_of_one_place_are_called_by_their_files(page):
     drop(page, {"books.csv": books((UID_A, ",B"), (UID_B, ",B")), "B.log": field(UID_A, UID_B),
-                "p.csv": b"place,log\nB,B\nB,B_old\n", "B_old.log": field(UID_A, UID_B)})
+                "p.csv": b"place,log\nB,B\nB,B_old\n",
+                "B_old.log": field(UID_A, UID_B, asks=2)})
     assert page.texts("#told h1") == ["All 2 expected items are in some log; but 2 tags are "
                                       "in both B.log and B_old.log."]
     assert "All 2 tags that B_old.log proves are proved by B.log too: Emma and Walden." in (
@@ -452,8 +459,33 @@ def test_what_is_no_log_takes_no_collection_away(page, names):
     drop(page, COMPLETE)
     drop(page, {name: b"%PDF-1.7\n" if "pdf" in name else b"E0040100000000A1\n"
                 for name in names})
-    page.until(".note", "the collection is still here.")
-    assert page.texts(".note")[0].startswith(" and ".join(names)) and look(page) == "yes"
+    page.until(".note", "The collection is still here.")
+    assert page.texts(".note")[1].startswith(" and ".join(names)) and look(page) == "yes"
+
+
+@pytest.mark.parametrize(("name", "text", "why"), [
+    ("notes.txt", b"Counted on Monday\n", "a log begins with 'vicinity-log'."),
+    ("notes.csv", b"a,b\n1,2\n", "a catalogue has a column 'uid'."),
+    ("more.xlsx", b"PK\x03\x04", "save a spreadsheet as CSV.")])
+@pytest.mark.parametrize("others", [{}, {"B.log": field(UID_B, asks=2)}])
+def test_what_belongs_to_no_collection_is_left_out_beside_one(page, name, text, why, others):
+    """It takes nothing away, and what comes with it joins: all of which is said."""
+    drop(page, COMPLETE)
+    drop(page, {name: text, **others})
+    assert look(page) == "yes" and page.texts("h1")[0].startswith("All 2 expected items are here")
+    said = " ".join(page.texts(".note"))
+    assert said.count(f"{name} was left out: {why}") == 1
+    assert ("B.log was replaced" in said) == bool(others)
+    assert ("The collection is still here." in said) == (not others)
+    assert f"{name} was left out: {why}" in page.run(TOLD)
+
+
+def test_what_belongs_to_no_collection_takes_none_away_that_waits(page):
+    drop(page, {"places.csv": b"place,log\nA,1.log\nB,2.log\n", "1.log": field(UID_A)})
+    drop(page, {"2.log": field(UID_B), "readme.txt": b"Hello\n"})
+    assert page.texts("h1") == ["Now open the catalogue: a table (CSV) with a column uid."]
+    drop(page, {"books.csv": BOTH})
+    assert look(page) == "yes" and page.texts(".note")[-1].startswith("readme.txt was left out: ")
 
 
 def test_items_by_their_states(page):
@@ -468,10 +500,10 @@ def test_items_by_their_states(page):
         "and 1 without a tag."]
     assert page.texts(".items :is(thead tr + tr, tbody tr)")[:6] == [
         "Shelf A", "missing: look for it\nPersuasion\nE0040100000000E5",
-        "Shelf B", "take to A\nWalden\nE0040100000000B2", "not in the catalogue\nE000000000000000",
+        "Shelf B", "take to A\nWalden\nE0040100000000B2",
+        "not in the catalogue: find it by its tag\nE000000000000000",
         "is back: record it\nKim\nE0040100000000C3"]
-    assert page.texts("#told > p")[-1] == ("The 1 other item of the catalogue is here, and in "
-                                           "place. 1 item is away, as the catalogue says.")
+    assert page.texts(".lights dd")[1] == "1 of 6 items, 1 away, 1 without a tag"
 
 
 def test_the_example(page):
@@ -481,8 +513,9 @@ def test_the_example(page):
         "1 item missing, 1 in the wrong place and 1 not known yet; count C again."]
     assert page.texts(".logs summary")[0] == (
         "C (shelf-c.log): 3 tags; left to ask: UIDs ending in E or F")
-    assert page.texts(".lights dd") == ["2 of 3 logs", "9 of 12 items"] + [
-        "the answer may be wrong"] * 2
+    # replies may be hidden only in the log that is to be counted again
+    assert page.texts(".lights dt")[2:] == ["If the reader went deaf"]
+    assert page.texts(".lights dd") == ["2 of 3 logs", "9 of 12 items", "the answer may be wrong"]
 
 
 # How a collection comes.
@@ -506,10 +539,26 @@ def test_a_log_is_judged_by_itself_when_it_is_opened(page):
     assert "Emma · A E0040100000000A1" in drawn
 
 
+def test_logs_that_come_one_after_the_other_stay(page):
+    """The last one is shown; a new one of a name is another count. A catalogue has all of them."""
+    drop(page, {"A.log": field()})
+    drop(page, {"B.log": field(UID_B)})
+    page.until("#each", "2 logs, each with its own answer.")
+    assert page.texts("#told h1") == ["1 tag is here, and no other. The log has no list to compare "
+                                      "with."]
+    drop(page, {"A.log": field(UID_A)})
+    assert len(page.texts("#logs button")) == 2
+    drop(page, {"photo.jpg": PHOTO})
+    page.until("#each", "2 logs, each with its own answer.")
+    drop(page, {"books.csv": BOTH})
+    assert look(page) == "yes" and page.texts("#logs button") == []
+
+
 def test_a_catalogue_waits_for_logs(page):
     """It is read at once, so that what is wrong with it is said."""
     drop(page, {"books.csv": BOTH})
     assert page.texts("#told h1") == ["The catalogue has 2 items in 2 places. Now open the logs."]
+    assert "a list of what was read is none" in page.said()
     drop(page, {"A.log": field(UID_A), "B.log": field(UID_B)})
     assert page.texts("#told h1") == ["All 2 expected items are here, and no others."]
 
@@ -544,6 +593,28 @@ def test_a_collection_with_its_catalogue_is_one_of_its_own(page):
     drop(page, COMPLETE)
     drop(page, {"books.csv": BOTH, "A.log": field(UID_A)})
     assert page.texts("#told h1") == ["1 item not counted; no log of B."]
+    assert page.texts(".note") == ["What was here (books.csv, 2 logs) was closed."]
+
+
+def test_a_collection_of_older_files_is_asked_about(page):
+    """That of last week, dropped whole over that of today: one answer is enough for all its logs,
+    and stands on the page from then on."""
+    drop(page, {**COMPLETE, "B.log": field()}, {name: NOON for name in COMPLETE})
+    page.until("h1", "1 item missing")
+    drop(page, COMPLETE, {name: NOON - HOUR for name in COMPLETE})
+    assert page.texts("h1") == ["All 2 expected items are in some log; but the logs of A and B are "
+                                "older than those they replaced."]
+    (words,) = page.texts(".doubts b")
+    assert re.match(r"A.log and B.log are older than the files that they replaced: A.log is of 18 "
+                    r"Nov 2026, \d\d:\d6, the other one of 18 Nov 2026, \d\d:\d6\.$", words)
+    assert look(page) == "read" and page.texts(".doubts button") == ["The older ones count"]
+    page.press(".doubts button")
+    page.until(".banner.yes h1", "All 2 expected items are here, and no others.")
+    assert page.texts(".note") == [f"{words} It was answered here: 'The older ones count'."]
+    drop(page, {"A.log": field(UID_A, asks=2)}, {"A.log": NOON - HOUR // 2})
+    assert page.texts("h1") == [
+        "All 2 expected items are in some log; but the log of A is older than the one it replaced."]
+    assert [it for it in page.texts(".note") if it.startswith("B.log of 18 Nov 2026, ")]
 
 
 @pytest.mark.parametrize(("press", "headline"), [
@@ -560,8 +631,8 @@ def test_it_is_asked_which_of_two_counts(page, press, headline):
     page.press(".doubts button", press)
     page.until("h1", headline)
     assert page.run(FOCUS) == headline and headline in page.run(TOLD)
-    assert page.texts(".note") == [["A (1).log was left out."],
-                                   ["A.log was left out: A (1).log takes its place."]][press]
+    assert page.texts(".note") == [["A (1).log was left out."], ["A.log was left out.",
+                                   "A (1).log counts as A.log."]][press]
     drawn = page.run("return document.querySelector('.logs').textContent")
     assert ("A (A (1).log): " in drawn) == (press == 1)
 
@@ -585,7 +656,7 @@ def test_a_catalogue_is_not_replaced_without_a_word(page, how):
     else:
         drop(page, {"week 2.csv": smaller})
     name = {"dropped": "week 2.csv", "pasted": "pasted text"}[how]
-    said = f"books.csv (2 items) was replaced by {name} (1 item)."
+    said = f"books.csv (2 items) was replaced by {name}."
     page.until(".note", said)
     assert page.texts(".note") == [said]
     assert page.run(TOLD) == f"{said} {page.texts('h1')[0]}"
@@ -634,6 +705,17 @@ def test_nothing_is_said_any_more_when_all_is_closed(page, files):
     assert f'@top-left {{ content: "{page.driver.title}"' in rules[-1]
 
 
+def test_what_is_pasted_takes_no_collection_away_without_a_word(page):
+    drop(page, COMPLETE)
+    page.run(PASTE, "hello")
+    page.until(".note", "The collection is still here.")
+    said = "pasted text was left out: a log begins with 'vicinity-log'."
+    assert said in page.texts(".note") and look(page) == "yes"
+    page.run(PASTE, log_of("I1 S").decode())
+    page.until("#told h1", "No tag answered, and nothing is listed.")
+    assert page.texts(".note") == ["What was here (books.csv, 2 logs) was closed."]
+
+
 def test_one_goes_back_after_a_paste(page):
     """A log that is pasted has no name, so it is of no place: it is judged by itself."""
     drop(page, COMPLETE)
@@ -662,12 +744,13 @@ def test_one_goes_back_after_a_paste(page):
      "Line 1 is: Tag ID;title"),
     ("books.xlsx", b"PK\x03\x04", "books.xlsx is a spreadsheet", "save it as CSV."),
     ("books.xls", b"\xD0\xCF\x11\xE0\xA1\xB1\x1A\xE1", "books.xls is a spreadsheet", "as CSV"),
-    ("books.csv", b"%PDF-1.7\n", "books.csv, line 1: this is a PDF", "Open the log itself")])
+    ("books.csv", b"%PDF-1.7\n", "books.csv, line 1: this is a PDF",
+     "Open the table itself, saved as CSV.")])
 def test_what_is_no_catalogue(page, name, text, words, cure):
     """It is said what is wrong, and what to do; the logs stay for the next catalogue."""
     drop(page, {name: text, "A.log": COMPLETE["A.log"], "B.log": COMPLETE["B.log"]})
     assert words in page.texts(".error")[0] and cure in page.said()
-    assert "The 2 logs are still here" in page.said()
+    assert "2 logs are still here" in page.said()
     drop(page, {"better.csv": BOTH})
     assert page.texts("#told h1") == ["All 2 expected items are here, and no others."]
 
@@ -697,7 +780,7 @@ def test_of_two_logs_of_one_name_one_is_left_out(page, names):
     page.run(DROP, [[name, b64encode(text).decode(), NOON - at * HOUR]
                     for at, (name, text) in enumerate(files)])
     page.until(".error", "another log has that name, or is of a place by the same name")
-    assert "still here" not in page.said()
+    assert "next catalogue" not in page.said()
     told = page.texts("#told button")
     # the older one first
     assert told[0].startswith(f"Leave out {names[1]}, the older file, of ")
@@ -705,6 +788,40 @@ def test_of_two_logs_of_one_name_one_is_left_out(page, names):
     page.press("#told button", 0)
     page.until("h1", "All 2 expected items are here, and no others.")
     assert page.run(FOCUS) == page.texts("h1")[0]
+
+
+PHOTO = b"\xff\xd8\xff\xe0\x00\x10JFIF\x00"
+STRANGE = {"photo.jpg": PHOTO, "list.pdf": b"%PDF-1.7\n", "Thumbs.db": b"\xD0\xCF\x11\xE0"}
+
+
+@pytest.mark.parametrize("names", [["photo.jpg"], [*STRANGE]])
+def test_files_that_are_no_texts_are_left_out_at_once(page, names):
+    """All are named, with nothing of what is in them, and nothing is said before one agrees."""
+    drop(page, {**{name: STRANGE[name] for name in names}, **COMPLETE})
+    isnt = {1: "photo.jpg is no table or log.",
+            3: "photo.jpg, list.pdf and Thumbs.db are no tables or logs."}
+    assert page.texts(".error") == [isnt[len(names)]] and look(page) == "refused"
+    assert "JFIF" not in page.said() and "\u2039" not in page.said()
+    assert page.texts("#told button") == [
+        "Leave out photo.jpg" if len(names) == 1 else "Leave out these 3 files"]
+    page.press("#told button")
+    page.until(".banner.yes h1", "All 2 expected items are here, and no others.")
+    assert page.texts(".note")[0].endswith(" were left out." if len(names) > 1 else " left out.")
+    assert all(name in page.texts(".note")[0] for name in names)
+
+
+@pytest.mark.parametrize(("name", "text", "what"), [
+    ("uids.txt", b"E0040100000000A1\n", "this is no log and no table, but a list of tag numbers"),
+    ("trace.txt", b"[=] downloading tracelog\n", "but a trace of a Proxmark"),
+    ("readme.txt", b"Hello\n", "readme.txt, line 1: this is no log and no table")])
+def test_what_is_no_part_of_a_collection_is_called_what_it_is(page, name, text, what):
+    """All else is here, and needs no other catalogue."""
+    drop(page, {**COMPLETE, name: text})
+    assert what in page.texts(".error")[0]
+    assert "All other files are still here." in page.said()
+    assert "next catalogue" not in page.said() and "Name one column" not in page.said()
+    page.press("#told button")
+    page.until(".banner.yes h1", "All 2 expected items are here, and no others.")
 
 
 def test_a_table_too_many_is_left_out(page):
@@ -722,6 +839,17 @@ def test_a_table_with_the_mark_of_its_coding(page, coding):
     assert sha256(table).hexdigest() in page.run("return document.body.textContent")
 
 
+def test_a_table_in_utf_16_by_its_columns(page):
+    """Its first 4,096 bytes are looked at, which may end within a sign: between two surrogates."""
+    head, *rows = BOTH.decode().splitlines()
+    head += "," + "n" * (2046 - len(head) - 1) + "\U0001F4D6"
+    table = "\n".join(["\ufeff" + head, *(f"{row}," for row in rows), ""]).encode("utf-16-le")
+    assert table[4094:4098] == "\U0001F4D6".encode("utf-16-le")
+    drop(page, {**{name: text for name, text in COMPLETE.items() if name != "books.csv"},
+                "books.txt": table})
+    assert look(page) == "yes"
+
+
 @pytest.mark.parametrize("coding", ["utf-16-le", "utf-16-be"])
 def test_a_log_in_utf_16_is_refused(page, program, tmp_path, coding):
     """As by the program, and as when it is opened alone."""
@@ -737,6 +865,7 @@ def test_a_log_in_utf_16_is_refused(page, program, tmp_path, coding):
     page.press("#close")
     drop(page, {"A.log": files["A.log"]})
     page.until("li", "The file seems to be UTF-16")
+    assert "Count again" not in page.texts(".steps")[0]
 
 
 def test_a_text_of_surveys_stands_in_place_of_its_logs(page, program, tmp_path):
@@ -755,7 +884,7 @@ def test_a_text_of_surveys_stands_in_place_of_its_logs(page, program, tmp_path):
 
 # How old the files are.
 
-def test_an_older_file_that_replaces_a_newer_one_is_not_green(page):
+def test_an_older_file_that_replaces_a_newer_one_is_not_green(page, tmp_path):
     """It is said, and asked; the date is that of the file, which may be one of a copy."""
     drop(page, {**COMPLETE, "B.log": field()}, {name: NOON for name in COMPLETE})
     page.until("h1", "1 item missing")
@@ -764,14 +893,24 @@ def test_an_older_file_that_replaces_a_newer_one_is_not_green(page):
     assert page.texts("h1") == ["All 2 expected items are in some log; but the log of B is older "
                                 "than the one it replaced."]
     assert look(page) == "read" and not page.texts(".light.yes")
+    # which may have become the way back of another file
+    assert "Back" not in page.texts(".doubts")[0]
     (words,) = page.texts(".doubts b")
     assert re.match(r"B.log of 18 Nov 2026, \d\d:\d6 is older than the file that it replaced, of "
                     r"18 Nov 2026, \d\d:\d6\.$", words)
     page.press(".doubts button")
     page.until(".banner.yes h1", "All 2 expected items are here, and no others.")
+    said = f"{words} It was answered here: 'The older one counts'."
+    assert said in page.texts(".note")
+    page.media("print")
+    assert said in page.texts(".note") and said in page.texts(".signed")[0]
+    page.media()
+    made = saved(page, tmp_path / "saved")
     drop(page, {"B.log": field(UID_B, asks=2)}, {"B.log": NOON})
     assert page.texts(".note") == ["B.log was replaced by what you opened under the same name."]
     assert look(page) == "yes"
+    page.open(made)
+    assert page.texts(".note") == [said] and look(page) == "yes"
 
 
 IS_OLDER = ["All 2 expected items are in some log; but the log of B is older than the one it "
@@ -805,36 +944,101 @@ def test_logs_before_their_catalogue_are_asked_about_too(page):
     assert page.texts("h1") == IS_OLDER
 
 
-@pytest.mark.parametrize(("late", "answer"), [(DAY, True), (DAY + HOUR, False)])
-def test_a_log_of_another_day_is_not_green(page, late, answer):
-    """Until it is said that it is of this count: its file may only have been copied."""
+@pytest.mark.parametrize(("late", "answer"), [(HALF, True), (HALF + HOUR, False), (DAY, False)])
+def test_a_log_of_half_a_day_before_is_not_green(page, late, answer):
+    """Until it is said that it is of this count: its file may only have been copied. From when to
+    when the files are stands below the headline."""
     drop(page, COMPLETE, {"books.csv": NOON - 9 * DAY, "A.log": NOON, "B.log": NOON - late})
     assert (look(page) == "yes") == answer
+    assert re.search(r"2 logs . files of 1[78] Nov 2026, \d\d:\d6 to 18 Nov 2026, \d\d:\d6$",
+                     page.texts(".banner p")[1])
     if answer:
         return
     assert page.texts("h1") == [
-        "All 2 expected items are in some log; but the log of B is of another day."]
-    assert "its file is of 17 Nov 2026" in page.texts(".doubts b")[0]
+        "All 2 expected items are in some log; but the log of B is more than 12 hours older."]
+    assert re.search("its file is of 1[78] Nov 2026", page.texts(".doubts b")[0])
     assert page.texts(".doubts button") == ["Leave out B.log", "It is of this count"]
     page.media("print")
     page.run(PRINTS)
     # no result is signed while a question is open; each log has the date of its file
     assert "This sheet is no result: a question above is open." in page.said()
     assert "Counted on" not in page.said()
-    assert "of 17 Nov 2026" in "\n".join(page.texts(".sum"))
+    assert re.search("of 1[78] Nov 2026", "\n".join(page.texts(".sum")))
     page.media()
     page.press(".doubts button", 1)
     page.until(".banner.yes h1", "All 2 expected items are here, and no others.")
+    (said,) = page.texts(".note")
+    assert re.search("its file is of 1[78] Nov 2026", said)
+    assert said.endswith("It was answered here: 'It is of this count'.")
+
+
+def test_that_a_file_is_of_this_count_is_said_of_the_others_that_are_here(page):
+    """With a newer one it is asked again; and so it is of other bytes."""
+    drop(page, COMPLETE, {"books.csv": NOON, "A.log": NOON, "B.log": NOON - DAY - HOUR})
+    page.press(".doubts button", 1)
+    page.until(".banner.yes h1", "All 2 expected items are here, and no others.")
+    drop(page, {"A.log": field(UID_A)}, {"A.log": NOON + 30 * DAY})
+    assert page.texts("h1") == [
+        "All 2 expected items are in some log; but the log of B is more than 12 hours older."]
+    assert look(page) == "read"
+
+
+def test_an_older_file_that_counts_may_be_of_another_day(page):
+    drop(page, COMPLETE, {name: NOON for name in COMPLETE})
+    drop(page, {"B.log": field(UID_B)}, {"B.log": NOON - 30 * DAY})
+    assert page.texts("h1") == IS_OLDER
+    page.press(".doubts button")
+    page.until("h1", "items are in some log; but the log of B is more than 12 hours older.")
+    assert look(page) == "read"
+
+
+def test_a_text_of_surveys_is_as_old_as_its_file(page, program, tmp_path):
+    """It can't be left out as the log that it has, but it is answered whether it counts."""
+    (tmp_path / "B.log").write_bytes(field(UID_B))
+    survey = program.run("survey", "B.log", cwd=tmp_path).out
+    files = {"books.csv": BOTH, "A.log": field(UID_A), "all.txt": survey}
+    drop(page, files, {"A.log": NOON, "all.txt": NOON - 20 * DAY})
+    page.until("h1", "items are in some log; but the log of B is more than 12 hours older.")
+    assert page.texts(".doubts button") == ["It is of this count"]
+    page.press(".doubts button")
+    page.until(".banner.yes h1", "All 2 expected items are here, and no others.")
+
+
+def test_two_files_of_one_minute_are_told_by_their_seconds(page):
+    drop(page, COMPLETE, {name: NOON for name in COMPLETE})
+    drop(page, {"B.log": field(UID_B, asks=2)}, {"B.log": NOON - 2000})
+    assert re.search(r":38 is older than .*:40\.$", page.texts(".doubts b")[0])
 
 
 # Which logs count, and where.
+
+@pytest.mark.parametrize("text", [b" " + field(UID_A), b"\x00\x01\x02"])
+def test_a_new_count_that_can_not_be_read_is_not_green(page, text):
+    """The old log of its place doesn't count in its stead."""
+    drop(page, COMPLETE)
+    assert look(page) == "yes"
+    drop(page, {"A.log": text})
+    assert look(page) in ("no", "refused")
+    drop(page, {"B.log": field(UID_B)})
+    assert look(page) in ("no", "refused")
+
+
+def test_a_table_that_was_left_out_stays_said(page):
+    drop(page, {**COMPLETE, "places.csv": b"place,log\nA,shelf-a\nB,shelf-b\n"})
+    page.press(".doubts button", page.texts(".doubts button").index("Leave out places.csv"))
+    page.until(".banner.yes h1", "All 2 expected items are here, and no others.")
+    drop(page, {"B.log": field(UID_B)})
+    assert look(page) == "yes" and "places.csv was left out." in page.texts(".note")
+
 
 def test_a_copy_of_a_log_that_is_not_here(page):
     """It can be counted as that one."""
     drop(page, {"books.csv": BOTH, "A.log": field(UID_A), "B (1).log": field(UID_B)})
     assert look(page) == "no"
-    assert page.texts("h1") == ["1 item heard in a log of no place; say whether B (1).log is the "
-                                "log of B."]
+    assert page.texts("h1") == ["1 item heard in a log of no place; no log of B, unless B (1).log "
+                                "is it."]
+    assert page.texts(".lights dt")[1] == "In some log"
+    assert page.texts(".lights dd")[1] == "2 of 2 items"
     assert page.texts(".doubts button") == ["Count it as B", "Leave out B (1).log"]
     page.press(".doubts button")
     page.until(".banner.yes h1", "All 2 expected items are here, and no others.")
@@ -842,15 +1046,210 @@ def test_a_copy_of_a_log_that_is_not_here(page):
     assert "B (B (1).log): 1 tag" in page.run("return document.querySelector('.logs').textContent")
 
 
+def test_what_was_heard_beside_belongs_to_no_place(page):
+    """A tag that is of no item was heard, too: it isn't said that all belongs there."""
+    table = books((UID_A, ",A"), (UID_B, ",B"))
+    drop(page, {"books.csv": table, "A.log": field(UID_A), "cart.log": field(UID_B, UID_C)})
+    assert "all that was heard in cart.log" not in page.texts(".doubts")[0]
+    assert page.texts(".doubts button") == ["Leave out cart.log"]
+
+
+@pytest.mark.parametrize("place", ["B/1", "B\\1"])
+def test_a_place_after_which_no_file_can_be_named(page, place):
+    """No button would count a log as its, but a table of places can."""
+    table = books((UID_A, ",A"), (UID_B, f",{place}"))
+    drop(page, {"books.csv": table, "A.log": field(UID_A), "cart.log": field(UID_B)})
+    assert page.texts(".doubts button") == ["Leave out cart.log"]
+    assert f"No file can be called {place}: write a table of places" in page.texts(".doubts")[0]
+    drop(page, {"p.csv": f"place,log\nA,A\n{place},cart\n".encode()})
+    assert look(page) == "yes"
+
+
+def test_with_a_table_of_places_no_name_is_that_of_a_place(page):
+    """Counted as A, it would be of no place: the table names another log."""
+    drop(page, {"books.csv": BOTH, "p.csv": b"place,log\nA,one\nB,two\n",
+                "A (1).log": field(UID_A), "two.log": field(UID_B)})
+    assert not any("Count it as" in it for it in page.texts(".doubts button"))
+    assert "p.csv doesn't name it: correct its column log." in page.texts(".doubts")[0]
+
+
+def test_a_table_of_places_names_the_files_that_were_opened(page):
+    """Also where somebody had said before of which places these are."""
+    drop(page, {"books.csv": BOTH, "one.log": field(UID_A), "two.log": field(UID_B)})
+    for _ in "AB":
+        page.press(".doubts button")
+        page.until(".note", "counts as")
+    page.until(".banner.yes h1", "All 2 expected items are here, and no others.")
+    assert page.texts(".note") == ["one.log counts as A.log.", "two.log counts as B.log."]
+    drop(page, {"p.csv": b"place,log\nA,one.log\nB,two.log\n"})
+    assert look(page) == "yes" and not any("counts as" in it for it in page.texts(".note"))
+
+
+def test_a_log_that_counts_as_another_twice_is_called_by_its_file(page):
+    """Not by the name that it had in between, which no file has."""
+    files = {"books.csv": FOUR_BOOKS, "one.log": field(*OF_B), "A.log": field(*OF_A)}
+    drop(page, files)
+    page.press(".doubts button")
+    page.until(".banner.yes h1", "All 4 expected items are here")
+    drop(page, {"books.csv": "\n".join(["uid,title,place", *(
+        f"{uid},{more[:-1]}{'AB'[more[-1] == 'A']}" for uid, more in FOUR.items()), ""]).encode()})
+    page.press(".doubts button")
+    page.until(".banner.yes h1", "All 4 expected items are here")
+    assert [it for it in page.texts(".note") if "counts as" in it] == [
+        "one.log counts as A.log.", "A.log counts as B.log."]
+    drawn = page.run("return document.querySelector('.logs').textContent")
+    assert "A (one.log): 2 tags" in drawn and "B (A.log): 2 tags" in drawn
+
+
+def test_logs_that_are_called_otherwise_than_their_places(page):
+    """What was heard in one says whose it may be, if all of it belongs to one place without a log.
+    It counts as that place's when somebody has said so."""
+    table = books((UID_A, ",A"), (UID_B, ",B"), (UID_C, ",B"))
+    logs = {"shelf-a.log": field(UID_A), "shelf-b.log": field(UID_B, UID_C)}
+    drop(page, {"books.csv": table, **logs})
+    assert page.texts("h1") == ["3 items heard in logs of no place; no log of A, unless "
+                                "shelf-a.log is it; no log of B, unless shelf-b.log is it."]
+    assert page.texts(".doubts button") == ["Count it as A", "Leave out shelf-a.log",
+                                            "Count it as B", "Leave out shelf-b.log"]
+    page.press(".doubts button")
+    page.until("h1", "2 items heard in a log of no place; no log of B, unless shelf-b.log is it.")
+    assert look(page) == "no"
+    page.press(".doubts button")
+    page.until(".banner.yes h1", "All 3 expected items are here, and no others.")
+    drop(page, {"books.csv": table, **logs, "shelf-a.log": field(UID_A, UID_B)})
+    assert page.texts(".doubts button")[:2] == ["Count it as B", "Leave out shelf-b.log"]
+    assert "shelf-a.log is of no place" in page.texts("h1")[0]
+
+
+FOUR = {f"E004010000000{number:03}": f"Title {number},{'AB'[number % 2]}" for number in range(4)}
+FOUR_BOOKS = "\n".join(["uid,title,place", *map(",".join, FOUR.items()), ""]).encode()
+OF_A, OF_B = ([int(uid, 16) for uid in [*FOUR][at::2]] for at in (0, 1))
+
+
+def test_logs_that_may_have_been_interchanged(page):
+    """All that each has is of the other's place: it is asked, and no item is known to be in a wrong
+    place before that. No green comes of it but by the answer."""
+    files = {"books.csv": FOUR_BOOKS, "A.log": field(*OF_B), "B.log": field(*OF_A)}
+    drop(page, files)
+    assert page.texts("h1") == ["4 items may be in the wrong place; say whether the logs of A and "
+                                "B were interchanged."]
+    assert page.texts(".doubts b") == ["All 2 tags in the log of A belong to B, and all in its log "
+                                       "to A."]
+    assert look(page) == "no" and "take to" not in page.said()
+    page.press(".doubts button", 1)
+    page.until("h1", "4 items in the wrong place.")
+    assert "take to B" in page.said()
+    assert page.texts(".note")[0].endswith("It was answered here: 'No: each is of its place'.")
+    page.press("#back")
+    page.until("h1", "interchanged")
+    page.press(".doubts button")
+    page.until(".banner.yes h1", "All 4 expected items are here, and no others.")
+    assert page.texts(".note") == ["A.log counts as B.log.", "B.log counts as A.log."]
+    drawn = page.run("return document.querySelector('.logs').textContent")
+    assert "A (B.log): 2 tags" in drawn and "B (A.log): 2 tags" in drawn
+    drop(page, {"books.csv": FOUR_BOOKS})
+    assert "A.log counts as B.log." in page.texts(".note")
+
+
+def test_a_log_that_may_be_that_of_another_place(page):
+    """Of one tag it isn't asked: an item may stand alone on a wrong shelf."""
+    drop(page, {"books.csv": FOUR_BOOKS, "A.log": field(*OF_B), "B.log": field()})
+    assert page.texts("h1")[0].startswith("2 items may be missing and 2 may be in the wrong "
+                                          "place; say whether the log of A is that of B;")
+    assert page.texts(".doubts button") == ["No: it is of its place"]
+    drop(page, {"A.log": field(OF_B[0])})
+    assert "1 in the wrong place" in page.texts("h1")[0]
+
+
+def test_one_file_under_two_names(page):
+    """One of the two shelves wasn't counted. Empty shelves may have the same log."""
+    drop(page, {"books.csv": FOUR_BOOKS, "A.log": field(*OF_A), "B.log": field(*OF_A)})
+    assert page.texts("h1") == ["2 items may be missing; A.log and B.log are one file."]
+    assert "missing: look for it" not in page.said()
+    assert page.texts(".doubts b") == ["A.log and B.log are the same, byte for byte."]
+    assert page.texts(".doubts button") == ["Leave out A.log", "Leave out B.log"]
+    page.press(".doubts button", 1)
+    page.until("h1", "2 items not counted; no log of B.")
+    drop(page, {"A.log": field(), "B.log": field()})
+    assert "one file" not in page.said()
+
+
+def test_a_log_in_which_all_is_of_another_shelf(page):
+    """As a copy with another comment: perhaps the shelf wasn't counted."""
+    for of in OF_A, OF_B:
+        drop(page, {"books.csv": FOUR_BOOKS, "A.log": field(*of),
+                    "B.log": field(*of) + b"# another\n"})
+        assert page.texts("h1") == ["2 items may be missing; 2 tags are in both A and B."]
+        assert "missing: look for it" not in page.said()
+
+
+def test_two_fields_that_overlap(page):
+    """Once somebody has said so, which stands there, it can be green; not with another log."""
+    files = {"books.csv": FOUR_BOOKS, "A.log": field(*OF_A), "B.log": field(*OF_B, OF_A[0])}
+    drop(page, files)
+    assert page.texts("h1") == [
+        "All 4 expected items are in some log; but 1 tag is in both A and B."]
+    assert page.texts(".doubts button") == ["The fields overlap"]
+    page.press(".doubts button")
+    page.until(".banner.yes h1", "All 4 expected items are here, and no others.")
+    (said,) = page.texts(".note")
+    assert "proved by A too" in said or "proved by B too" in said
+    assert said.endswith("It was answered here: 'The fields overlap'.")
+    drop(page, {"A.log": field(*OF_A, asks=2)})
+    assert look(page) == "read" and page.texts(".doubts button") == ["The fields overlap"]
+
+
+@pytest.mark.parametrize("twice", [False, True])
+def test_many_logs_that_are_called_otherwise_than_their_places(page, twice):
+    """One button is enough; two logs that may be of one place aren't among them."""
+    uids = {f"S{number}": 0xE004010000000000 + number for number in range(6)}
+    table = "\n".join(["uid,place", *(f"{uid:016X},{place}" for place, uid in uids.items()), ""])
+    scans = {f"scan_{place}.log": field(uid) for place, uid in uids.items()}
+    more = {"again.log": field(uids["S0"], asks=2)} if twice else {}
+    drop(page, {"books.csv": table.encode(), **scans, **more})
+    number = 5 if twice else 6
+    said = f"Count these {number} logs as those of their tags' places"
+    assert page.texts(".doubts button")[0] == said
+    assert f"unless {number} of other names are theirs" in page.texts("h1")[0]
+    assert f"scan_S{6 - number}.log to S{6 - number}" in page.texts(".doubts b")[0]
+    page.press(".doubts button")
+    page.until(".note", f"{number} logs count by other names than their own")
+    assert (look(page) == "yes") != twice
+    drawn = page.run("return document.querySelector('.logs').textContent")
+    assert "S5 (scan_S5.log): 1 tag" in drawn
+
+
 def test_a_table_of_places_that_names_no_log(page):
     """Without it each log is of the place after which it is named."""
     drop(page, {**COMPLETE, "places.csv": b"place,log\nA,shelf-a\nB,shelf-b\n"})
-    assert page.texts("h1") == ["2 items heard in a log of no place; no log of A and B; A.log and "
-                                "B.log are of no place."]
+    assert page.texts("h1") == ["2 items heard in logs of no place; no log of A and B, as "
+                                "places.csv names none of these logs; A.log and B.log are of no "
+                                "place."]
     assert "places.csv names none of these logs" in page.texts(".doubts")[0]
     assert page.texts(".doubts button") == ["Leave out places.csv"]
     page.press(".doubts button")
     page.until(".banner.yes h1", "All 2 expected items are here, and no others.")
+
+
+def test_a_table_of_places_that_names_another_log(page):
+    """The place is known, and has no other name: the table has."""
+    drop(page, {**COMPLETE, "places.csv": b"place,log\nA,A.log\nB,Bb.log\n"})
+    (said,) = [it for it in page.texts(".doubts li") if "of no place" in it]
+    assert "places.csv doesn't name it: correct its column log." in said
+    assert "has no place of that name" not in page.said()
+
+
+def test_many_logs_of_no_place_are_left_out_at_once(page):
+    strangers = {f"x{number}.log": field(UID_C) for number in range(5)}
+    drop(page, {**COMPLETE, **strangers})
+    assert "The catalogue has no place of these names." in page.texts(".doubts")[0]
+    assert page.texts(".doubts button") == ["Leave out these 5 logs"]
+    page.press(".doubts button")
+    page.until(".banner.yes h1", "All 2 expected items are here, and no others.")
+    assert page.texts(".note") == ["x0.log, x1.log, x2.log, x3.log and x4.log were left out."]
+    drop(page, {"x0.log": strangers["x0.log"]})
+    page.until("h1", "x0.log is of no place")
+    assert page.texts(".note")[-1] == "x1.log, x2.log, x3.log and x4.log were left out."
 
 
 def test_a_catalogue_that_names_no_place(page):
@@ -866,7 +1265,7 @@ def test_no_log_of_another_shelf_is_left_out(page):
                 "places.csv": b"place,log\nA,A\nA,old\nB,B\n", "A.log": field(UID_A, UID_C),
                 "old.log": field(UID_A, UID_C, UID_B), "B.log": field(UID_B)})
     buttons = page.texts(".doubts button")
-    assert buttons and {*buttons} <= {"Leave out A.log", "Leave out old.log"}
+    assert buttons == ["The fields overlap", "Leave out A.log", "Leave out old.log"]
     assert look(page) == "read" and page.texts(".doubts b") == [
         "The tag that B proves is proved by old.log too: Walden.",
         "All 3 tags that old.log proves are proved by A.log and B too: Emma, Kim and Walden."]
@@ -875,7 +1274,12 @@ def test_no_log_of_another_shelf_is_left_out(page):
 def test_where_all_are_here_and_a_log_is_not_finished(page):
     drop(page, {**COMPLETE, "B.log": log_of("I16 S2 RB S9")})
     page.until("h1", "All 2 expected items are here; count B again, as others may be there.")
-    assert look(page) == "no"
+    assert look(page) == "no" and page.texts(".lights dt") == ["Search finished", "In place"]
+
+
+def test_an_item_without_a_tag_is_looked_for(page):
+    drop(page, {**COMPLETE, "books.csv": BOTH + b"none,Kim,A\n"})
+    assert page.texts(".steps") == ["Look for 1 item by eye, as said below."]
 
 
 def test_what_is_away_is_not_in_place(page):
@@ -969,7 +1373,7 @@ def test_the_sheets_say_of_what_they_are(page):
     page.run(PRINTS)
     rules = page.run("return [...document.styleSheets[0].cssRules].map((it) => it.cssText)")
     said = "All 2 expected items are here, and no others."
-    assert page.driver.title == f"{said} books.csv"
+    assert page.driver.title == f"books.csv: {said}"
     assert f'@top-left {{ content: "books.csv: {said}"' in rules[-1]
     page.press("#close")
     drop(page, {'a "b".log': log_of("I1 S")})
@@ -994,3 +1398,187 @@ def test_a_keyboard_has_few_stops_among_many_logs(page):
     page.until("h1", "count all logs again.")
     assert len(page.texts(".logs summary")) == 60
     assert page.run(STOPS) <= 30
+
+
+# What leaves the page.
+
+def until_green(page):
+    page.until(".banner.yes h1", "expected items are here, and no others.")
+
+
+@pytest.mark.parametrize("text", [field(UID_B)[1:], field(UID_B)])
+def test_a_new_count_of_a_file_that_counts_otherwise(page, text):
+    """By the name that it was opened with: it is named, and counts no more."""
+    drop(page, {"books.csv": BOTH, "A.log": field(UID_A), "B (1).log": field(UID_B)})
+    page.press(".doubts button")
+    until_green(page)
+    drop(page, {"B (1).log": text})
+    assert look(page) in ("no", "refused")
+    assert ("B (1).log, counted as B.log, was replaced by what you opened under the same name."
+            in page.texts(".note"))
+
+
+def test_a_copy_of_a_log_is_older_than_one_that_was_closed(page):
+    drop(page, {"B.log": field(UID_B, UID_C)}, {"B.log": NOON + HOUR})
+    drop(page, {"books.csv": BOTH, "A.log": field(UID_A), "B (1).log": field(UID_B)},
+         {"books.csv": NOON, "A.log": NOON, "B (1).log": NOON - 2 * HOUR})
+    closed = "What was here (B.log) was closed."
+    assert page.texts(".note") == [closed]
+    page.press(".doubts button")
+    page.until("h1", IS_OLDER[0])
+    assert closed in page.texts(".note") and look(page) == "read"
+
+
+def test_of_two_logs_that_were_interchanged_both_are_replaced(page):
+    drop(page, {"books.csv": FOUR_BOOKS, "A.log": field(*OF_B), "B.log": field(*OF_A)})
+    page.press(".doubts button")
+    until_green(page)
+    drop(page, {"A.log": field(*OF_A)})
+    page.until("h1", "2 items not counted; no log of B.")
+    assert ("A.log, counted as B.log, and B.log, counted as A.log, were replaced by what you "
+            "opened under the same name." in " ".join(page.texts(".note")))
+
+
+@pytest.fixture
+def surveys(program, tmp_path):
+    """The texts of surveys of two logs, each of its own."""
+    (tmp_path / "A.log").write_bytes(field(UID_A))
+    (tmp_path / "B.log").write_bytes(field(UID_B))
+    return [program.run("survey", name, cwd=tmp_path).out for name in ("A.log", "B.log")]
+
+
+def test_each_text_of_surveys_is_as_old_as_its_file(page, surveys):
+    files = {"books.csv": BOTH, "s1.txt": surveys[0], "s2.txt": surveys[1]}
+    drop(page, files, {"books.csv": NOON, "s1.txt": NOON - 3 * DAY, "s2.txt": NOON})
+    assert page.texts("h1") == [
+        "All 2 expected items are in some log; but the log of A is more than 12 hours older."]
+
+
+def test_an_older_text_of_surveys_is_asked_about(page, surveys):
+    files = {"books.csv": BOTH, "s1.txt": surveys[0], "s2.txt": surveys[1]}
+    drop(page, files, {"books.csv": NOON, "s1.txt": NOON - 3 * HOUR, "s2.txt": NOON})
+    assert look(page) == "yes"
+    drop(page, {"s2.txt": surveys[1]}, {"s2.txt": NOON - 2 * HOUR})
+    assert page.texts("h1") == IS_OLDER
+
+
+def test_an_answer_is_about_a_text_of_surveys(page, program, surveys, tmp_path):
+    drop(page, {"books.csv": BOTH, "s1.txt": surveys[0], "B.log": field(UID_B)},
+         {"books.csv": NOON, "s1.txt": NOON - 3 * DAY, "B.log": NOON})
+    page.press(".doubts button")
+    until_green(page)
+    (tmp_path / "A.log").write_bytes(field(UID_A, asks=2))
+    other = program.run("survey", "A.log", cwd=tmp_path).out
+    drop(page, {"s1.txt": other}, {"s1.txt": NOON - 3 * DAY})
+    assert page.texts("h1") == [
+        "All 2 expected items are in some log; but the log of A is more than 12 hours older."]
+
+
+def test_a_new_count_of_a_log_that_a_text_of_surveys_has(page, surveys):
+    drop(page, {"books.csv": BOTH, "s1.txt": surveys[0], "s2.txt": surveys[1]})
+    drop(page, {"B.log": field(UID_B)[1:]})
+    assert look(page) in ("no", "refused")
+
+
+def test_what_is_no_log_stays_until_it_is_left_out(page):
+    drop(page, {"A.log": field(UID_A), "C.log": field(UID_C)[1:]})
+    drop(page, {"B.log": field(UID_B)})
+    assert len(page.texts("#logs button")) == 3
+    drop(page, {"books.csv": BOTH})
+    assert look(page) in ("no", "refused") and "C.log" in page.said()
+    page.press("#told button", page.texts("#told button").index("Leave out C.log"))
+    until_green(page)
+    assert page.texts(".note") == ["C.log was left out."]
+
+
+def test_beside_what_can_not_be_read_there_is_no_answer(page):
+    drop(page, {"A.log": field(UID_A), "C.log.part": field(UID_C)})
+    drop(page, {"B.log": field(UID_B)})
+    drop(page, {"books.csv": BOTH})
+    page.until(".error", "C.log.part: by its name it is still being downloaded or written")
+    drop(page, COMPLETE)
+    assert look(page) == "yes"
+
+
+def test_a_log_by_itself_is_not_replaced_without_a_word(page):
+    drop(page, {"A.log": field(UID_A)})
+    drop(page, {"A.txt": field(UID_A, asks=2)})
+    assert page.texts(".note") == ["A.log was replaced by what you opened under the same name."]
+
+
+def test_what_was_closed_stays_said(page, tmp_path):
+    """Of logs that had no catalogue, also where others of it came."""
+    drop(page, {"A.log": field(UID_A)})
+    drop(page, {"X.log": field(UID_C)})
+    drop(page, COMPLETE)
+    said = "What was here (A.log and X.log) was closed."
+    assert page.texts(".note") == [said] and look(page) == "yes"
+    drop(page, {"B.log": field(UID_B, asks=2)})
+    assert said in page.texts(".note") and said in "\n".join(page.run(
+        "return [...document.querySelectorAll('.signed')].map((it) => it.textContent)"))
+    made = saved(page, tmp_path / "saved")
+    page.open(made)
+    assert page.texts(".note") == [said]
+
+
+def test_what_is_pasted_stays_until_there_is_a_catalogue(page, tmp_path):
+    drop(page, {"A.log": field(UID_A)})
+    page.run(PASTE, field(UID_C).decode())
+    page.until("#each", "2 logs")
+    drop(page, {"B.log": field(UID_B)})
+    page.until("#each", "3 logs")
+    drop(page, {"books.csv": BOTH})
+    said = "pasted text was left out: what is pasted has no name."
+    assert page.texts(".note") == [said] and look(page) == "yes"
+    made = saved(page, tmp_path / "saved")
+    page.open(made)
+    assert page.texts(".note") == [said]
+
+
+def test_what_was_left_out_stays_said(page):
+    drop(page, COMPLETE)
+    drop(page, {"B (1).log": field(UID_B)[1:]})
+    drop(page, {"A.log": field(UID_A)})
+    assert "B (1).log was left out: a log begins with 'vicinity-log'." in page.texts(".note")
+    drop(page, {"X.log": field(UID_C)})
+    page.press(".doubts button")
+    until_green(page)
+    assert "X.log was left out." in page.texts(".note")
+    drop(page, {"X.csv": BOTH})
+    assert "X.log was left out." in page.texts(".note") and look(page) == "yes"
+
+
+def test_what_was_left_out_stays_said_without_a_catalogue(page):
+    drop(page, {**COMPLETE, "X.log": field(UID_C)})
+    page.press(".doubts button")
+    until_green(page)
+    drop(page, {"books.csv": books((UID_A, ",A")) + b"E004,Walden,B\n"})
+    page.until(".error", "books.csv, line 3")
+    page.press("#told button")
+    page.until("#each", "2 logs")
+    drop(page, {"books.csv": BOTH})
+    assert look(page) == "yes" and "X.log was left out." in page.texts(".note")
+
+
+def test_what_was_left_out_before_all_others_is_said(page):
+    drop(page, {"books.csv": BOTH, "X.log": field(UID_C)})
+    page.press(".doubts button")
+    page.until("h1", "Now open the logs.")
+    assert page.texts(".note") == ["X.log was left out."]
+
+
+def test_what_counts_otherwise_is_named_when_it_is_replaced(page):
+    drop(page, {"books.csv": BOTH, "A.log": field(UID_A), "X.log": field(UID_B)})
+    page.press(".doubts button")
+    until_green(page)
+    drop(page, {"B.log": field(UID_B)})
+    assert page.texts(".note") == ["X.log, counted as B.log, was replaced by what you opened under "
+                                   "the same name."]
+
+
+def test_a_log_that_is_still_judged_is_judged_when_another_joins(page):
+    tags = [0xE004010000100000 + at for at in range(20_000)]
+    page.run(DROP, [["big.log", b64encode(field(*tags)).decode(), None]])
+    page.run(DROP, [["A.log", b64encode(field(UID_A)).decode(), None]])
+    page.until("#logs", "20,000 tags are here")
+    assert "stopped" not in page.texts("#logs")[0]

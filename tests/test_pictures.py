@@ -9,6 +9,7 @@ import json
 import os
 import random
 import re
+import shutil
 import subprocess
 import sys
 from pathlib import Path
@@ -193,21 +194,21 @@ def test_report_as_json(run):
     assert objects[0]["sentence"].startswith(HEADLINES["shelf"])
     assert objects[2]["findings"] == [{"kind": "silenced by", "line": 4},
                                       {"kind": "conflict", "line": 6}]
-    assert [it["line"] for it in objects[0]["notes"]] == [3, 5, 5]
+    assert [it["line"] for it in objects[0]["notes"]] == [3, 5]
 
 
 def test_random_pictures(vicinity):
     """Every log has a picture: random ones, possible and impossible, each with a sentence and what
     was found."""
     from vicinity.pages import document
-    from vicinity.sessions import findings, headline, report, show
+    from vicinity.logs import findings, headline, report, show
 
     rng, kinds = random.Random(1), set()
     for _ in range(RANDOM_LOGS):
         version = rng.randint(1, 3)
         _, lines = random_logs.random_log(rng, version)
         text = random_logs.text_of(version, lines)
-        found = findings.Told(text)
+        found = findings.JudgedLog(text)
         kinds.add(found.answer.kind.word)
         parts = [headline.headline(found), *show.show(found),
                  *report.lines_of_report("log", found)]
@@ -303,10 +304,10 @@ def test_page_of_a_refused_text(opened):
 
 
 @pytest.mark.parametrize(("text", "name"), [
-    (REFUSED, "The log"), (REFUSED + b"S\n", "The log, to line 4 of 5"),
-    (b"uid,title\nE004,Emma\n", "The file, to line 1 of 2"), (b"PK\x03\x04\0\n\0", "")])
+    (REFUSED, "The text"), (REFUSED + b"S\n", "The text"),
+    (b"uid,title\nE004,Emma\n", "The text"), (b"PK\x03\x04\0\n\0", "")])
 def test_what_a_page_has_of_a_refused_text(opened, text, name):
-    """It ends at the line that is refused, and says so. A spreadsheet isn't shown."""
+    """A spreadsheet isn't shown."""
     assert "".join(opened("text", text).texts("aside:not([hidden]) label")) == name
 
 
@@ -338,7 +339,6 @@ def sessions(vicinity):
 @pytest.mark.parametrize("name", ["whole", "half", "lost", "unlisted", "woke", "empty", "conflict"])
 def test_page_of_a_longer_session(opened, sessions, name):
     page = opened(name, sessions[name])
-    assert ("The reader silenced" in page.said()) == (name == "lost")
     if name == "conflict":
         page.until("summary", "The 737 lines that can't all be true")
         page.press(".reader details > summary")
@@ -370,8 +370,7 @@ def test_page_of_a_collection(reconciled):
     page = reconciled(*SHELVES)
     assert page.texts("h1") == [
         "1 item missing, 1 in the wrong place and 1 not known yet; count C again."]
-    assert page.texts(".lights dd") == ["2 of 3 logs", "9 of 12 items",
-                                        *["the answer may be wrong"] * 2]
+    assert page.texts(".lights dd") == ["2 of 3 logs", "9 of 12 items", "the answer may be wrong"]
     groups = ["Count again (1 log)", "At the shelves (2)", "Not known yet (1)",
               "Here (9 items)", "Searched to the end (2 logs)", "What this takes for granted (10)"]
     assert page.texts("details > summary h2") == groups
@@ -380,6 +379,17 @@ def test_page_of_a_collection(reconciled):
         "take to B\nThe Time Machine\nE00401504477EB73"]
     assert page.texts(".logs summary")[0] == (
         "C (shelf-c.log): 3 tags; left to ask: UIDs ending in E or F")
+
+
+def test_page_of_a_collection_with_an_older_log(reconciled, tmp_path):
+    """By the times of the files, as where they are dropped."""
+    *logs, old = [Path(shutil.copy(it, tmp_path)) for it in SHELVES]
+    os.utime(old, (1_600_000_000, 1_600_000_000))
+    page = reconciled(*logs, old)
+    (words,) = page.texts(".doubts b")
+    assert re.match(r"The log of C is older than the others: its file is of 13 Sept? 2020", words)
+    assert re.search(r"3 logs . files of 13 Sept? 2020, \d\d:26 to ", page.texts(".banner p")[1])
+    assert page.texts(".doubts button") == []
 
 
 def test_page_of_a_collection_that_is_not_sure_enough(run, browser, tmp_path):
@@ -400,6 +410,8 @@ def test_page_of_a_collection_that_is_not_sure_enough(run, browser, tmp_path):
         where = ("in the field of shelf-a.log; that is enough for UIDs ending in an even digit, "
                  "for example.")
         assert f"To go unnoticed, {missed} {where}" in page.texts(".holds p")
+        ask_more = "Count again, with readers that ask all once more at the end."
+        assert (ask_more in page.texts(".steps")) == (status == 1)
         page.is_readable()
     page.end()
 

@@ -27,7 +27,7 @@ console.log(JSON.stringify([WebAssembly.Module.imports(it), exported]));
 # each, and that the module is as it was.
 WRONG = """
 import { readFileSync } from "node:fs";
-import { Library } from "./web/library.mjs";
+import { Library } from "./web/judge/library.mjs";
 const library = await Library.of(readFileSync(process.argv[1]));
 const silent = "vicinity-log 1\\nT 260100F60A\\nS\\n";
 const wide = Uint16Array.from(silent, (it) => it.charCodeAt(0)), table = "uid\\nnone\\n";
@@ -52,7 +52,7 @@ console.log(JSON.stringify([
 """
 # A module whose stack is too small, as Firefox says it, and what is said of it next.
 SPENT = """
-import { Library } from "./web/library.mjs";
+import { Library } from "./web/judge/library.mjs";
 const library = new Library({ exports: { memory: new WebAssembly.Memory({ initial: 1 }),
   vicinity_interface: () => 2, vicinity_allocate: () => 16n, vicinity_free() {},
   vicinity_run() { throw new Error("too much recursion"); } } });

@@ -1,32 +1,34 @@
 /** What is opened: files as logs, each with its text, or together a collection, which has none of its own. */
-import { isPlaces, kindOf, stemOf } from "./files.mjs";
+import { hasUids, isPlaces, isSpreadsheet, isStrange, kindOf, startOf, stemOf, surveyedIn } from "./judge/files.mjs";
+import { grouped } from "./judge/groups.mjs";
+import { firstOf, MOST_LISTED } from "./say/shelves.mjs";
+import { count, listing, printable } from "./say/words.mjs";
 import { STOPPED } from "./work.mjs";
-import { count, listing, printable } from "./words.mjs";
 
-/** @typedef {import("./files.mjs").Given} Given */
-/** @typedef {import("./collection.mjs").CollectionObject} CollectionObject */
-/** @typedef {{tables: Entry[], logs: Entry[], both: string[], left: [string, string][]}} Collection with the logs of which it was said
- *   that they are no copies, and those that were left out by hand, each with what is said of it */
+/** @typedef {import("./judge/files.mjs").Given} Given */
+/** @typedef {import("./judge/objects.mjs").CollectionObject} CollectionObject */
+/** @typedef {{name: string, how: string, names: string[], changed?: number}} Left what isn't here any more: how it left, if that is said as
+ *   long as it isn't back, else when it was changed, of which what has one of its names may be an older file */
+/** @typedef {{tables: Entry[], logs: Entry[], both: string[], left: Left[]}} Collection with what was answered of its logs */
 /**
- * A log, or a collection, with what was done to it last; or one that waits for its catalogue.
- * Of a file it has when that was changed, and its own name, if it took another; of a catalogue which it replaced.
- * @typedef {Given & import("./work.mjs").Done & {given?: Collection, waits?: string, note?: string, replaced?: string,
- *   said?: import("./say.mjs").Said, changed?: number, was?: string, newer?: number}} Entry
+ * A log, or a collection, with what was done to it last; or one that waits for its catalogue. Of a file it has when that was changed,
+ * and its own name, if it took another; of one by itself, what isn't here any more.
+ * @typedef {Given & import("./work.mjs").Done & {given?: Collection, waits?: string, note?: string,
+ *   said?: import("./say/say.mjs").Said, changed?: number, was?: string, left?: Left[]}} Entry
  */
 
 /** Larger files are no logs, and no text for each browser. */
 const MOST_BYTES = 256_000_000, TOO_LARGE = "it has more than 256 MB";
-const NO_FILE = "it can't be read; open it again, or the files in it if it is a folder";
+const NO_FILE = "it can't be read; open it again, or the files in it if it is a folder", NO_LOG = "a log begins with 'vicinity-log'";
 /** How the name of a file ends while it is downloaded, or written. */
 const UNFINISHED = /\.(crdownload|opdownload|download|part|partial|filepart|tmp)$/i;
 const NOT_WHOLE = "by its name it is still being downloaded or written: wait for that, or copy it again";
 /** What no name of a log has. */
-const CONTROL = /[\0-\x1F\x7F]/g;
-const NO_CATALOGUE = "Now open the catalogue: a table (CSV) with a column uid.";
-/** What is pasted has no name by which it could be of a place. */
-export const PASTED = "pasted text";
-/** It leaves with the first file that is opened, and joins none. */
-export const EXAMPLE = "the example";
+const CONTROL = /[\0-\x1F\x7F]/g, NO_TEXTS = "Leave out what doesn't belong here; save a spreadsheet as CSV; unpack a ZIP file.";
+/** Of how many logs it is said each that they count by other names. */
+const MOST_SAID_EACH = 4, NO_CATALOGUE = "Now open the catalogue: a table (CSV) with a column uid.";
+/** What is pasted has no name by which it could be of a place. The example leaves with the first file that is opened, and joins none. */
+export const PASTED = "pasted text", EXAMPLE = "the example";
 
 /** @param {Entry} entry */
 export const isUnanswered = ({ told, collection, error, waits }) => !told && !collection && !error && !waits;
@@ -48,12 +50,9 @@ export async function read(file, signal) {
   if (UNFINISHED.test(name)) return { name, text, error: NOT_WHOLE };
   if (file.size > MOST_BYTES) return { name, text, error: TOO_LARGE };
   try {
-    const stopped = new Promise((_, no) => signal.addEventListener("abort", no));
-    const bytes = await Promise.race([file.arrayBuffer(), stopped]);
+    const stopped = new Promise((_, no) => signal.addEventListener("abort", no)), bytes = await Promise.race([file.arrayBuffer(), stopped]);
     return { name, text: new Uint8Array(bytes), changed: file.lastModified };
-  } catch {
-    return { name, text, error: signal.aborted ? STOPPED : NO_FILE };
-  }
+  } catch { return { name, text, error: signal.aborted ? STOPPED : NO_FILE }; }
 }
 
 /** @param {Entry} entry */
@@ -62,76 +61,164 @@ const isATable = (entry) => kindOf(entry) === "table";
 const isCatalogue = (entry) => isATable(entry) && !isPlaces(entry);
 /** @param {Entry} entry */
 const isPasted = ({ name }) => [PASTED, EXAMPLE].includes(name);
-/** @param {Entry} entry */
-const joins = (entry) => kindOf(entry) !== "other" && (isATable(entry) || !isPasted(entry));
+/** @param {{name: string}[]} list */
+const namesOf = (list) => listing(list.map(({ name }) => printable(name)));
 
 /**
- * When the newest file of its name was changed that a log replaces, also one that was replaced before; none if it is the newest itself.
- * @param {Entry} log
- * @param {Entry[]} replaced
+ * Those of some logs that are the same as others: by their names, also those that they had before they counted otherwise.
+ * @template {{name: string, was?: string}} Log
+ * @param {Log[]} list
+ * @param {{name: string, was?: string}[]} others
  */
-function newerThan(log, replaced) {
-  const those = replaced.filter(({ name }) => stemOf(name) === stemOf(log.name));
-  const newest = Math.max(0, ...those.flatMap(({ changed = 0, newer = 0 }) => [changed, newer]));
-  return newest > (log.changed ?? newest) ? newest : undefined;
+function sameAs(list, others) {
+  const stems = new Set(others.flatMap(stemsOf));
+  return list.filter((log) => stemsOf(log).some((stem) => stems.has(stem)));
 }
 
+/** @param {{name: string, was?: string}} log */
+const stemsOf = ({ name, was = name }) => [stemOf(name), stemOf(was)];
+
 /**
- * What was opened, as it is judged. Tables, or logs beside a collection that is here, belong to what is here; a catalogue
- * with its logs is a collection of its own. A log that was pasted belongs to none.
+ * Files that leave.
+ * @param {Entry[]} list
+ * @param {(file: Entry) => string} [how] nothing if it isn't said of each
+ */
+const leftAs = (list, how = () => "") => list.map((it) => /** @type {Left} */ (
+  { name: it.was ?? it.name, how: how(it), names: [it.name, it.was ?? it.name, ...surveyedIn(it)], changed: it.changed }));
+
+/**
+ * What was opened, as it is judged. Logs join others. Tables, or logs beside a collection that is here, belong to what is here, and what
+ * is neither is left out; a catalogue with its logs is a collection of its own. A log that was pasted belongs to none.
  * @param {Entry[]} taken
  * @param {Entry[]} entries those that are here
  * @returns {Entry[]}
  */
 export function gathered(taken, entries) {
-  const tables = taken.filter(isATable), logs = taken.filter((entry) => !isATable(entry)), earlier = entries[0]?.given;
-  const isWhole = taken.some(isCatalogue) && logs.length > 0, isJoining = !isWhole && taken.every(joins) && (earlier || !logs.length);
-  const names = (/** @type {Entry[]} */ list) => listing(list.map(({ name }) => printable(name)));
-  const isOther = taken.every((it) => kindOf(it) === "other" && !isPasted(it)), no = taken.length > 1 ? "aren't logs" : "isn't a log";
-  if (isOther && entries[0]?.collection) return [{ ...entries[0], note: `${names(taken)} ${no}; the collection is still here.` }];
-  if (!tables.length && !(isJoining && earlier)) return taken.map((log) => ({ ...log, newer: newerThan(log, entries) }));
-  const here = isJoining && earlier || { tables: [], logs: isJoining ? entries.filter((it) => !isPasted(it)) : [], both: [], left: [] };
-  const stems = new Set(logs.map(({ name }) => stemOf(name))), replaced = here.logs.filter(({ name }) => stems.has(stemOf(name)));
-  const left = here.logs.filter((log) => !replaced.includes(log)), all = [...left, ...logs.map((log) => ({ ...log, newer: newerThan(log, replaced) }))];
-  const kept = here.tables.filter((table) => !tables.some((other) => isPlaces(other) === isPlaces(table)));
-  const was = (/** @type {Entry[]} */ list, /** @type {string} */ how) => list.length ? `${names(list)} ${list.length > 1 ? "were" : "was"} ${how}. ` : "";
-  const gone = here.tables.filter((table) => !kept.includes(table)), [old] = gone.filter(isCatalogue), items = entries[0]?.collection?.items.length;
-  const isOlder = replaced.length === 1 && logs.some((log) => newerThan(log, replaced)), joined = left.length ? [...logs, ...gone.length ? [] : tables.filter(isPasted)] : [];
-  const note = was(gone.filter(isPlaces), `replaced by ${names(tables.filter(isPlaces))}`) +
-    was(isJoining && !earlier ? entries.filter(isPasted) : [], "left out: what is pasted has no name") +
-    (was(replaced, `replaced by ${isOlder ? "an older file of" : "what you opened under"} the same name`) || (joined.length ? `${names(joined)} joined the logs that were here.` : ""));
-  const given = { tables: [...kept, ...tables], logs: all, both: here.both, left: here.left.filter(([name]) => !stems.has(stemOf(name))) };
-  return [{ ...collected(given, note),
-    replaced: old && `${names([old])}${items === undefined ? "" : ` (${count(items, "item")})`} was replaced by ${names(tables.filter(isCatalogue))}` }];
+  const [first] = entries, earlier = first?.given, before = entries.flatMap((it) => it.given?.logs ?? it);
+  const known = taken.filter((it) => !earlier || !strangeness(it)), isWhole = known.some(isCatalogue) && !known.every(isATable);
+  // one of a log's name is a new count of it, which wasn't read: the old one doesn't count beside it
+  const here = before.flatMap((it) => [it, ...surveyedIn(it).map((name) => ({ name }))]), past = earlier?.left ?? first?.left ?? [];
+  const isNew = (/** @type {Entry} */ it) => !isATable(it) && sameAs([it], here).length > 0;
+  const out = taken.filter((it) => !isWhole && !known.includes(it) && !isNew(it)), rest = taken.filter((it) => !out.includes(it));
+  const left = leftAs(out, (it) => `left out: ${strangeness(it)}`), said = wasEach(left).join(" ");
+  if (earlier && !rest.length) return [collected({ ...earlier, left: [...past, ...left] }, `${said} The collection is still here.`)];
+  const tables = rest.filter(isATable), logs = rest.filter((it) => !isATable(it));
+  const isJoining = !isWhole && (earlier || !logs.length) && logs.every((it) => !isPasted(it)), isLoose = !tables.length && !(isJoining && earlier);
+  const what = earlier ? `${first.name}, ${count(before.length, "log")}` : firstOf(before.map(({ name }) => name), "and", MOST_LISTED);
+  const isClosed = first && !isJoining && (earlier || !isLoose), closed = { name: `What was here (${what})`, how: "closed", names: [] };
+  const over = isClosed ? [...past.filter(({ how }) => !how), ...leftAs(before), ...earlier ? [] : [closed]] : past;
+  const note = isClosed ? `${wasEach([closed])[0]} ` : "";
+  if (isLoose) {
+    const gone = isClosed ? [] : sameAs(entries, logs), words = note || replacing(gone, logs), all = [...over, ...leftAs(gone)];
+    return [...isClosed ? [] : entries.filter((it) => !gone.includes(it)), ...logs.map((log) => ({ ...log, note: words.trimEnd() }))]
+      .map((it) => ({ ...it, left: all }));
+  }
+  const others = isJoining && !earlier ? entries : [], [unnamed, strange] = [others.filter(isPasted), others.filter(isStrange)];
+  const more = [...left, ...leftAs(unnamed, () => "left out: what is pasted has no name"), ...leftAs(strange, () => `left out: ${NO_LOG}`)];
+  return [joined({ ...isJoining && earlier || { tables: [], both: [], logs: others.filter((it) => !unnamed.includes(it) && !strange.includes(it)) },
+    left: [...over, ...more] }, tables, logs, [note, ...wasEach(more)].join(" "), first)];
 }
 
 /**
- * A collection without one of its files, or its logs if no table is left. One that counts in place
+ * Why a file belongs to no collection; empty if it may.
+ * @param {Entry} entry
+ */
+const strangeness = (entry) => kindOf(entry) === "other" ? NO_LOG : !isCatalogue(entry) || hasUids(entry) ? "" : isSpreadsheet(startOf(entry))
+  ? "save a spreadsheet as CSV" : "a catalogue has a column 'uid'";
+
+/**
+ * What became of files.
+ * @param {{name: string}[]} list
+ * @param {string} how
+ */
+const was = (list, how) => list.length ? `${namesOf(list)} ${list.length > 1 ? "were" : "was"} ${how}. ` : "";
+
+/**
+ * What became of files, each with how.
+ * @param {Left[]} left
+ */
+const wasEach = (left) => [...grouped(left.filter(({ how }) => how), ({ how }) => how)].map(([how, its]) => printable(was(its, how).trimEnd()));
+
+/**
+ * What became of logs that others replace.
+ * @param {Entry[]} gone
+ * @param {Entry[]} logs
+ */
+function replacing(gone, logs) {
+  const [by] = sameAs(logs, gone), isOlder = gone.length === 1 && (by.changed ?? Infinity) < (gone[0].changed ?? 0);
+  const called = gone.map(({ name, was = name }) => ({ name: was === name ? name : `${was}, counted as ${name},` }));
+  return was(called, `replaced by ${isOlder ? "an older file of" : "what you opened under"} the same name`);
+}
+
+/**
+ * A collection with more files, of which each takes the place of one of its kind, or of its name; and what became of these. Where each
+ * log belongs a new table of places says by their own names.
+ * @param {Collection} here
+ * @param {Entry[]} tables
+ * @param {Entry[]} logs
+ * @param {string} note
+ * @param {Entry} [first] what was here
+ */
+function joined(here, tables, logs, note, first) {
+  const replaced = sameAs(here.logs, logs), stay = here.logs.filter((log) => !replaced.includes(log));
+  const kept = stay.map((log) => log.was && tables.some(isPlaces) ? { ...log, name: log.was } : log);
+  const gone = here.tables.filter((table) => tables.some((other) => isPlaces(other) === isPlaces(table))), [old] = gone.filter(isCatalogue);
+  const more = kept.length ? [...logs, ...gone.length ? [] : tables.filter(isPasted)] : [];
+  const had = first?.collection ? ` (${count(first.collection.items.length, "item")})` : "";
+  const said = (old ? `${namesOf([old])}${had} was replaced by ${namesOf(tables.filter(isCatalogue))}. ` : "") +
+    was(gone.filter(isPlaces), `replaced by ${namesOf(tables.filter(isPlaces))}`) + (note.trim() && `${note.trim()} `) +
+    (replacing(replaced, logs) || (more.length ? `${namesOf(more)} joined the logs that were here.` : ""));
+  const isBack = (/** @type {Left} */ one) => [...logs, ...tables].some((it) => it.name === one.name && (it.changed ?? 0) >= (one.changed ?? 0));
+  return collected({ tables: [...here.tables.filter((table) => !gone.includes(table)), ...tables], logs: [...kept, ...logs], both: here.both,
+    left: [...here.left.filter((it) => !it.how || !isBack(it)), ...leftAs(replaced)] }, said.trimEnd());
+}
+
+/**
+ * A collection without some of its files, or its logs if no table is left. One that counts in place
  * of a log that is left out takes its place, if it has none.
  * @param {Collection} given
- * @param {Entry | undefined} left
+ * @param {Entry[]} gone
  * @param {string} [kept]
  * @param {CollectionObject} [object]
  * @returns {Entry[]}
  */
-export function without({ tables, logs, both, left: out }, left, kept, object) {
-  const of = (/** @type {string | undefined} */ name) => object?.logs.find((log) => log.name === name);
-  const name = left?.name ?? "", takes = of(kept)?.left_over && of(name)?.place;
-  const others = (/** @type {Entry[]} */ list) => list.filter((it) => it !== left);
-  const note = `${name} was left out${takes ? `: ${kept} takes its place` : ""}.`;
-  const rest = { tables: others(tables), both, left: tables.some((it) => it === left) ? out : /** @type {typeof out} */ ([...out, [name, note]]),
-    logs: others(logs).map((log) => takes && log.name === kept ? { ...log, name, was: kept } : log) };
-  return rest.tables.length ? [collected(rest, note)] : rest.logs;
+export function without({ tables, logs, both, left }, gone, kept, object) {
+  const of = (/** @type {string | undefined} */ name) => object?.logs.find((log) => log.name === name), [{ name }] = gone;
+  const others = (/** @type {Entry[]} */ list) => list.filter((it) => !gone.includes(it)), takes = of(kept)?.left_over && of(name)?.place;
+  const out = leftAs(gone, () => "left out");
+  const rest = { tables: others(tables), both, left: [...left, ...out], logs: calledAs(others(logs), takes && kept ? [[kept, name]] : []) };
+  return rest.tables.length ? [collected(rest, [...wasEach(out), ...asOthers(rest.logs, takes ? [name] : [])].join(" "))]
+    : rest.logs.map((log) => ({ ...log, left: rest.left }));
 }
 
 /**
- * A collection in which a log of no place counts by another name.
+ * A collection in which logs count by other names; one that has such a name, by theirs.
  * @param {Collection} given
- * @param {string} name
- * @param {string} as
+ * @param {string[]} names
+ * @param {string[]} as
  */
-export const counted = (given, name, as) =>
-  collected({ ...given, logs: given.logs.map((log) => log.name === name ? { ...log, name: as, was: name } : log) }, `${name} counts as ${as}.`);
+export function counted(given, names, as) {
+  const logs = calledAs(given.logs, names.flatMap((name, at) => [[name, as[at]], [as[at], name]]));
+  return collected({ ...given, logs }, asOthers(logs, [...names, ...as]).join(" "));
+}
+
+/**
+ * Logs of which some have other names.
+ * @param {Entry[]} logs
+ * @param {[string, string][]} names
+ */
+const calledAs = (logs, names) => logs.map((log) => names.reduce((it, [from, to]) => log.name === from
+  ? { ...log, name: to, was: log.was ?? from } : it, log));
+
+/**
+ * Which files count by other names than their own.
+ * @param {Entry[]} logs
+ * @param {string[]} names
+ */
+function asOthers(logs, names) {
+  const all = logs.flatMap(({ name, was = name }) => was !== name && names.includes(name) ? printable(`${was} counts as ${name}.`) : []);
+  return all.length > MOST_SAID_EACH ? [`${count(all.length, "log")} count by other names than their own, which stand below in brackets.`] : all;
+}
 
 /**
  * A collection with what is known of its files.
@@ -139,15 +226,20 @@ export const counted = (given, name, as) =>
  * @param {Collection} given
  */
 export function withFiles(object, { logs, both, left }) {
-  Object.assign(object, { both, left: left.map(([, said]) => printable(said)) });
+  Object.assign(object, { both, left: [...wasEach(left), ...asOthers(logs, logs.map(({ name }) => name))] });
+  const files = new Map(logs.flatMap((it) => (kindOf(it) === "surveys" ? surveyedIn(it) : [it.name]).map((name) => [name, it])));
+  const dates = /** @type {Map<string, number>} */ (new Map());
+  for (const { how, names, changed = 0 } of left) for (const stem of how ? [] : names.map(stemOf))
+    dates.set(stem, Math.max(dates.get(stem) ?? 0, changed));
   for (const log of object.logs) {
-    const { was, changed, newer } = logs.find(({ name }) => name === log.name) ?? {};
-    Object.assign(log, { was, changed, newer });
+    const file = files.get(log.name) ?? log, { was, changed } = file;
+    const newest = Math.max(...[log, file].flatMap(stemsOf).map((stem) => dates.get(stem) ?? 0));
+    Object.assign(log, { was, changed, newer: newest > (changed ?? newest) ? newest : undefined });
   }
 }
 
 /**
- * A collection that is judged, or waits for its catalogue. Without one of its files nothing is said of it.
+ * A collection that is judged, or waits for its catalogue. Without one of its files nothing is said of it, nor beside one that is no text.
  * @param {Collection} given
  * @param {string} [note]
  * @returns {Entry}
@@ -155,6 +247,8 @@ export function withFiles(object, { logs, both, left }) {
 export function collected(given, note) {
   const { tables, logs } = given, catalogue = tables.find(isCatalogue), lacking = [...logs, ...tables].filter(isLacking);
   const entry = { name: (catalogue ?? tables[0]).name, text: new Uint8Array(), given, note };
+  const names = [...tables, ...logs].filter(isStrange).map((it) => it.name), [name] = names, are = names[1] ? "are no tables or logs" : "";
+  if (name) return { ...entry, name, error: `${listing(names)} ${are || "is no table or log"}`, cure: [NO_TEXTS], files: names };
   if (lacking.length) return { ...entry, error: lacking.map(({ name, error }) => `${name}: ${error}`).join("; ") };
   return catalogue ? entry : { ...entry, waits: NO_CATALOGUE };
 }

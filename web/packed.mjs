@@ -7,7 +7,5 @@
 export const bytesOf = (text) => Uint8Array.from(atob(text), (letter) => letter.charCodeAt(0));
 
 /** @param {Uint8Array} bytes that were compressed */
-export async function unpacked(bytes) {
-  const { DecompressionStream: Unpacking } = /** @type {any} */ (globalThis);
-  return new Uint8Array(await new Response(new Blob([bytes]).stream().pipeThrough(new Unpacking("deflate"))).arrayBuffer());
-}
+export const unpacked = async (bytes) => new Uint8Array(await new Response(new Blob([bytes]).stream().pipeThrough(
+  new (/** @type {any} */ (globalThis).DecompressionStream)("deflate"))).arrayBuffer());

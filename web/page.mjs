@@ -1,96 +1,80 @@
 /** The page that judges: what is opened or typed is judged, and one of it is shown. */
-import { at } from "./elements.mjs";
-import { isSpreadsheet, kindOf, startOf } from "./files.mjs";
+import { at } from "./draw/elements.mjs";
+import { Pane } from "./draw/pane.mjs";
+import { unfold, unfoldOnPaper } from "./draw/printing.mjs";
+import { isSpreadsheet, kindOf, startOf } from "./judge/files.mjs";
 import { collected, counted, EXAMPLE, gathered, isUnanswered, PASTED, read, withFiles, without } from "./opened.mjs";
 import { bytesOf, unpacked } from "./packed.mjs";
-import { Pane } from "./pane.mjs";
-import { unfold, unfoldOnPaper } from "./printing.mjs";
-import { isForeign } from "./refused.mjs";
 import { pageOf, save, withObjects } from "./saving.mjs";
-import { begin, focusOnHeading, overview, show, shown, titleOfEntry } from "./shown.mjs";
-import { count, printable } from "./words.mjs";
+import { isForeign } from "./say/refused.mjs";
+import { count, printable } from "./say/words.mjs";
+import { begin, focusOnHeading, overview, show, shown } from "./shown.mjs";
 import { STOPPED, Work } from "./work.mjs";
 
 /** @typedef {import("./opened.mjs").Entry} Entry */
 
 /** How long a judging goes on before it can be stopped, in ms. */
-const PATIENCE = 400;
-const PASTE = "Paste a log here";
-const NO_DROP = "No file was dropped, so nothing has changed. Save the text as a file, and open that.";
+const PATIENCE = 400, PASTE = "Paste a log here", NO_DROP = "No file was dropped, so nothing has changed. Save the text as a file, and open that.";
 const SAVED_COPY = "This is what a browser has saved of the page: its answers, without the logs. To go on, open these again.";
 
 const field = /** @type {HTMLTextAreaElement} */ (at("text")), files = /** @type {HTMLInputElement} */ (at("files"));
-const stop = at("stop"), status = at("status"), saves = at("save"), back = at("back"), close = at("close"), beside = at("beside"), pane = new Pane(field, shown, PASTE);
+const stop = at("stop"), status = at("status"), saves = at("save"), back = at("back"), close = at("close"), beside = at("beside");
+const pane = new Pane(field, shown, PASTE);
 
-/** @type {Entry[]} */
-let entries = [];
-/** Which is shown; none of several, until one is pressed. */
-let current = 0;
-/** @type {number | undefined} */
-let patience;
 /**
- * When the answers to several logs are drawn next: the more there are, the less often.
- * @type {number | undefined}
+ * All that changes: what is here, and which of it is shown, none of several until one is pressed; what was here before each drop, paste
+ * or leave; what is opened after all that was opened before it, and until it is read, the last of these, of which nothing is known yet;
+ * what ends the reading; when it is said what is waited for, and the answers to several logs are drawn next; and whether a button was
+ * pressed that is gone when it is done: then the heading gets the focus.
  */
-let drawing;
-/**
- * What was shown before each drop, paste or leave.
- * @type {{entries: Entry[], current: number}[]}
- */
-const past = [];
-/** What is opened, after all that was opened before it; and until it is read, the last of these, of which nothing is known yet. */
-let opening = Promise.resolve();
-/** @type {Entry | undefined} */
-let pending;
-let stopping = new AbortController();
-/** Whether a button was pressed that is gone when it is done: then the heading gets the focus. */
-let isPressed = false;
+const now = { entries: /** @type {Entry[]} */ ([]), current: 0, past: /** @type {{entries: Entry[], current: number}[]} */ ([]),
+  opening: Promise.resolve(), pending: /** @type {Entry | undefined} */ (undefined), stopping: new AbortController(),
+  patience: 0, drawing: 0, isPressed: false };
 
 /**
  * The worker's script, and compressed and in base64 the library as WebAssembly and the page that is saved. They stand within this script,
  * which the browser runs only if its hash is right: a page of which a bit was turned over judges nothing.
  */
-const WORKER = "{{worker}}", MODULE = "{{module}}", RECORD = "{{record}}";
-const work = new Work(WORKER, bytesOf(MODULE));
+const WORKER = "{{worker}}", MODULE = "{{module}}", RECORD = "{{record}}", SAMPLE = at("sample").textContent ?? "";
+const work = new Work(WORKER, bytesOf(MODULE), new TextEncoder().encode(SAMPLE));
 
 // What is judged
 
 /** @param {Entry} entry */
 async function ask(entry) {
   wait();
-  const { given, name, text } = entry;
-  const done = await work.ask(given ? { files: [...given.tables, ...given.logs].map((file) => ({ name: file.name, text: file.text })) } : { name, text });
-  if (done.told) done.told.object.changed = entry.changed;
+  const { given, name, text, changed } = entry;
+  const done = await work.ask(given ? { files: filesOf(entry).map((file) => ({ name: file.name, text: file.text })) } : { name, text, changed });
   if (done.collection && given) withFiles(done.collection, given);
-  // of one that was asked twice the first answer stays
-  if (isUnanswered(entry)) Object.assign(entry, done);
-  if (!pending && !entries.some(isUnanswered)) quiet();
-  if (entry === entries[current]) draw();
-  else if (entries.includes(entry)) drawing ??= window.setTimeout(drawList, entries.length);
+  Object.assign(entry, done);
+  if (!now.pending && !now.entries.some(isUnanswered)) quiet();
+  // the more there are, the less often their list is drawn
+  if (entry === now.entries[now.current]) draw();
+  else if (now.entries.includes(entry)) now.drawing ||= window.setTimeout(drawList, now.entries.length);
 }
 
 /** What takes long can be stopped. */
 function wait() {
-  clearTimeout(patience);
-  patience = window.setTimeout(() => {
-    const left = entries.filter(isUnanswered);
+  clearTimeout(now.patience);
+  now.patience = window.setTimeout(() => {
+    const left = now.entries.filter(isUnanswered), { pending } = now;
     if (!pending && !left.length) return;
     stop.hidden = false;
-    status.textContent = printable(pending ? `Reading ${pending.name} ..` : `Judging ${left.length > 1 ? count(left.length, "log") : left[0].name} ..`);
+    status.textContent = printable(`${pending ? `Reading ${pending.name}` : `Judging ${left[1] ? count(left.length, "log") : left[0].name}`} ..`);
   }, PATIENCE);
 }
 
 /** Nothing is being read or judged. */
 function quiet() {
-  clearTimeout(patience);
+  clearTimeout(now.patience);
   stop.hidden = true;
   status.textContent = "";
 }
 
+for (const it of [stop, back, close, at("example")]) it.addEventListener("click", () => { now.isPressed = true; });
 stop.addEventListener("click", () => {
-  isPressed = true;
-  stopping.abort();
-  stopping = new AbortController();
+  now.stopping.abort();
+  now.stopping = new AbortController();
   work.stop();
 });
 
@@ -98,30 +82,29 @@ stop.addEventListener("click", () => {
 
 /** Shows what is here: of several the list, and one of them. */
 function draw() {
-  const entry = pending ?? entries[current];
+  const { entries, pending, current } = now, entry = pending ?? entries[current];
   document.body.classList.toggle("empty", !entries.length);
-  back.hidden = !past.length;
+  back.hidden = !now.past.length;
   close.hidden = !entries.length;
   drawList();
   saves.hidden = !(entry?.told && !isForeign(entry.told)) && !entry?.collection;
   beside.hidden = !!pending || entry?.given !== undefined || current < 0;
   show(entry, opener, (name) => filesOf(entry).some((file) => file.name === name));
-  pane.mark();
-  if (!isPressed || pending || entries.some(isUnanswered)) return;
-  isPressed = false;
+  if (!now.isPressed || pending || entries.some(isUnanswered)) return;
+  now.isPressed = false;
   focusOnHeading();
 }
 
 function drawList() {
-  clearTimeout(drawing);
-  drawing = undefined;
-  overview(pending ? [] : entries, current);
+  clearTimeout(now.drawing);
+  now.drawing = 0;
+  overview(now.pending ? [] : now.entries, now.current);
 }
 
 at("logs").addEventListener("click", ({ target }) => {
   const button = /** @type {HTMLElement} */ (target).closest("button");
-  if (!button || !entries.length) return;
-  current = [...at("logs").querySelectorAll("button")].indexOf(button);
+  if (!button || !now.entries.length) return;
+  now.current = [...at("logs").querySelectorAll("button")].indexOf(button);
   edit();
   draw();
   button.focus();
@@ -138,64 +121,50 @@ at("logs").addEventListener("click", ({ target }) => {
 function take(taken, which = taken.length > 1 ? -1 : 0) {
   if (work.isBusy) work.stop();
   if (!taken.length) begin();
-  entries = taken;
-  current = which;
-  entries.filter(isUnanswered).forEach(ask);
+  // what was asked before may still have another answer: that it was stopped
+  now.entries = taken.map((entry) => ({ ...entry }));
+  now.current = which;
+  now.entries.filter(isUnanswered).forEach(ask);
   edit();
   draw();
 }
 
 /** Keeps what is here, so that one can go back to it. */
-const keep = () => past.push({ entries: [...entries], current });
+const keep = () => now.past.push({ entries: [...now.entries], current: now.current });
 
 back.addEventListener("click", () => {
-  const before = past.pop();
-  isPressed = true;
+  const before = now.past.pop();
   if (before) take(before.entries.map((entry) => entry.error === STOPPED ? { ...entry, error: undefined } : entry), before.current);
 });
-close.addEventListener("click", () => {
-  keep();
-  isPressed = true;
-  take([]);
-});
+close.addEventListener("click", () => { keep(); take([]); });
 
 /** @param {Entry} [entry] */
 const filesOf = (entry) => [...entry?.given?.tables ?? [], ...entry?.given?.logs ?? []];
 
 /**
- * A log of a collection.
- * @param {Entry} entry
- * @param {string} [name]
- */
-const logOf = ({ given }, name) => given?.logs.find((log) => log.name === name && kindOf(log) === "log");
-
-/**
  * What is told of a log, with its text.
  * @param {Entry} log
  */
-async function whole({ name, text, changed }) {
-  const { told } = await work.ask({ name, text, isKept: true });
-  if (told) told.object.changed = changed;
-  return told;
-}
+const whole = async ({ name, text, changed }) => (await work.ask({ name, text, changed, isKept: true })).told;
 
 /**
  * What is told of a log of the collection that is shown, by its number: it is judged when it is asked for.
  * @param {number} number
  */
 function opener(number) {
-  const entry = entries[current], log = logOf(entry, entry.collection?.logs[number].name);
+  const { given, collection } = now.entries[now.current], name = collection?.logs[number].name;
+  const log = given?.logs.find((it) => it.name === name && kindOf(it) === "log");
   return log ? () => whole(log) : null;
 }
 
 shown.addEventListener("click", ({ target }) => {
   const { leave, kept, both, out, as } = /** @type {HTMLElement} */ (target).closest("button")?.dataset ?? {};
-  const { given, collection } = entries[current] ?? {}, all = filesOf(entries[current]);
+  const { given, collection } = now.entries[now.current] ?? {}, all = filesOf(now.entries[now.current]), outs = out?.split(",").map(Number);
   if (!given || !leave && !both && !out && !as) return;
   keep();
-  isPressed = true;
-  take(both ? [collected({ ...given, both: [...given.both, both] })] : as && kept ? [counted(given, kept, as)]
-    : without(given, out ? all[Number(out)] : all.find((it) => it.name === leave), kept, collection));
+  now.isPressed = true;
+  take(both ? [collected({ ...given, both: [...given.both, ...both.split("\n")] })] : as && kept ? [counted(given, kept.split("\n"), as.split("\n"))]
+    : without(given, all.filter((it, index) => outs ? outs.includes(index) : leave?.split("\n").includes(it.name)), kept, collection));
 });
 
 /**
@@ -203,33 +172,27 @@ shown.addEventListener("click", ({ target }) => {
  * @param {Iterable<File>} chosen
  */
 function open(chosen) {
-  const all = [...chosen], { signal } = stopping, reading = Promise.all(all.map((file) => read(file, signal)));
-  const name = all.length === 1 ? all[0].name : count(all.length, "file");
+  const all = [...chosen], reading = Promise.all(all.map((file) => read(file, now.stopping.signal)));
   if (!all.length) return;
   /** @type {Entry} */
-  const mine = pending = { name, text: new Uint8Array() };
+  const mine = now.pending = { name: all.length === 1 ? all[0].name : count(all.length, "file"), text: new Uint8Array() };
   wait();
   draw();
-  opening = opening.then(async () => {
+  now.opening = now.opening.then(async () => {
     const taken = await reading;
-    if (pending === mine) {
-      pending = undefined;
-      quiet();
-    }
-    const made = gathered(taken, entries.filter((it) => it.name !== EXAMPLE));
-    if (entries.length) keep();
-    take(made);
+    if (now.pending === mine) now.pending = undefined;
+    if (!now.pending) quiet();
+    const made = gathered(taken, now.entries.filter((it) => it.name !== EXAMPLE));
+    if (now.entries.length) keep();
+    take(made, made.length < 2 ? 0 : taken.length > 1 ? -1 : made.length - 1);
   }).catch(({ message }) => take([{ ...mine, error: message }]));
 }
 
 /** Puts the text of the log that is shown into its field. */
-function edit() {
-  const entry = entries[current];
-  pane.put(entry && !isSpreadsheet(startOf(entry)) ? entry.text : new Uint8Array());
-}
+const edit = (entry = now.entries[now.current]) => pane.put(entry && !isSpreadsheet(startOf(entry)) ? entry.text : new Uint8Array());
 
 saves.addEventListener("click", async () => {
-  const log = entries[current], fold = unfold(), text = shown.innerText, title = titleOfEntry(log);
+  const log = now.entries[now.current], fold = unfold(), text = shown.innerText, { title } = document;
   fold();
   const object = log.collection ? await withObjects(log.collection, opener) : (await whole(log))?.object;
   if (object) save(pageOf(new TextDecoder().decode(await unpacked(bytesOf(RECORD))), object, title, text), `${log.name}.html`);
@@ -242,10 +205,7 @@ files.addEventListener("change", () => {
   // so that the same file, changed meanwhile, can be chosen again
   files.value = "";
 });
-at("example").addEventListener("click", () => {
-  isPressed = true;
-  open([new File([at("sample").textContent ?? ""], EXAMPLE)]);
-});
+at("example").addEventListener("click", () => open([new File([SAMPLE], EXAMPLE)]));
 /**
  * Whether a text gets into the field, which takes one where no log is shown.
  * @param {Event} event

@@ -1,9 +1,8 @@
 /** Saves what is shown as a page of its own, which judges nothing. */
-import { madeOnce } from "./words.mjs";
+import { madeOnce } from "./judge/groups.mjs";
 
 /** What would end the element in which an object stands. */
-const MARKUP = /</g;
-const TEXT_MARKUP = /[&<]/g;
+const MARKUP = /</g, TEXT_MARKUP = /[&<]/g;
 /** How long a file is there to be saved, in ms: Safari reads it after the click. */
 const KEPT = 40_000;
 
@@ -14,8 +13,8 @@ const LISTS = new Set(["certain_in", "possible_in"]);
 
 /**
  * A collection as it is saved: with the objects of as many of its logs as there is room for, those first that have to be counted again.
- * @param {import("./collection.mjs").CollectionObject} object
- * @param {import("./collection.mjs").Opener} opener
+ * @param {import("./judge/objects.mjs").CollectionObject} object
+ * @param {import("./draw/collection.mjs").Opener} opener
  */
 export async function withObjects(object, opener) {
   const logs = [...object.logs], isDone = (/** @type {number} */ at) => logs[at].field === "possible" && !logs[at].open?.length;
@@ -35,8 +34,7 @@ export async function withObjects(object, opener) {
 function jsonOf(object) {
   const lists = /** @type {number[][]} */ ([]), numbers = /** @type {Map<number[], number>} */ (new Map());
   return JSON.stringify("items" in object ? { ...object, lists } : object, (key, value) =>
-    !LISTS.has(key) || value.length <= MOST_REPEATED ? value
-      : madeOnce(numbers, value, () => lists.push(value) - 1));
+    !LISTS.has(key) || value.length <= MOST_REPEATED ? value : madeOnce(numbers, value, () => lists.push(value) - 1));
 }
 
 /**

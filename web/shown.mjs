@@ -1,39 +1,42 @@
 /** Shows what is here: several logs, each with what it says, and what is told of one. */
-import { collectionView, headlineOf } from "./collection.mjs";
-import { at, button, el } from "./elements.mjs";
-import { kindOf } from "./files.mjs";
-import { leaveOut } from "./logs.mjs";
+import { collectionView } from "./draw/collection.mjs";
+import { at, button, el } from "./draw/elements.mjs";
+import { banner, signed, view } from "./draw/view.mjs";
+import { isStrange, kindOf } from "./judge/files.mjs";
+import { KIND } from "./judge/objects.mjs";
 import { isLacking, isUnanswered } from "./opened.mjs";
-import { isForeign, nameOfText } from "./refused.mjs";
-import { say } from "./say.mjs";
-import { banner, signed, titleOf, view } from "./view.mjs";
-import { count, KIND, printable } from "./words.mjs";
+import { leaveOut } from "./say/copies.mjs";
+import { isForeign } from "./say/refused.mjs";
+import { say } from "./say/say.mjs";
+import { count, printable, titled } from "./say/words.mjs";
 
 /** @typedef {import("./opened.mjs").Entry} Entry */
 
-const TOGETHER = "Press one to see it. For one answer about all of them, open them together with one catalogue (CSV).";
+const PRESS = "Press one to see it. For one answer about all of them, open them together with one catalogue (CSV).";
 /** How much is said of what is wrong. */
-const MOST_SAID = 2000;
-const OPEN_AGAIN = "Open all files again, together: the logs and the catalogue.";
+const MOST_SAID = 2000, OPEN_AGAIN = "Open all files again, together: the logs and the catalogue.", THE_REST = "All other files are still here.";
 
 const several = at("several"), each = at("each"), list = at("logs");
 export const shown = at("told");
 /** What stands there before anything is opened. */
 const START = document.body.classList.contains("empty") ? [...shown.childNodes] : [], TITLE = document.title;
 
+/** What heads that which is shown. */
+const heading = () => /** @type {HTMLElement | null} */ (document.querySelector("#each h1, #told h1"));
+
 /**
  * Shows what is told of a log or a collection; until it is judged, nothing.
  * @param {Entry | undefined} entry
- * @param {import("./collection.mjs").Opener} opener
+ * @param {import("./draw/collection.mjs").Opener} opener
  * @param {(name: string) => boolean} canLeave
  */
 export function show(entry, opener, canLeave) {
   shown.setAttribute("aria-busy", String(entry !== undefined && isUnanswered(entry)));
-  at("named").textContent = entry?.told ? nameOfText(entry.told, false) : "The log";
   if (!entry) return;
+  const { note = "", collection, name } = entry;
   shown.replaceChildren(...nodesOf(entry, opener, canLeave));
-  headed(titleOfEntry(entry));
-  if (noteOf(entry)) at("said").prepend(`${noteOf(entry)} `);
+  const words = heading()?.textContent ?? "";
+  headed(words ? titled(collection?.file ?? name, words) : printable(`${name} ..`), note && `${printable(note)} `);
 }
 
 /** Shows what stands there before anything is opened. */
@@ -45,52 +48,42 @@ export function begin() {
 
 /** Leads the keyboard to what has changed, and whoever doesn't see it. */
 export function focusOnHeading() {
-  const heading = /** @type {HTMLElement | null} */ (document.querySelector("#each h1, #told h1"));
-  if (heading) heading.tabIndex = -1;
-  heading?.focus();
+  heading()?.setAttribute("tabindex", "-1");
+  heading()?.focus();
 }
 
 /**
  * @param {Entry} entry
- * @param {import("./collection.mjs").Opener} opener
+ * @param {import("./draw/collection.mjs").Opener} opener
  * @param {(name: string) => boolean} canLeave
  * @returns {Node[]}
  */
 function nodesOf(entry, opener, canLeave) {
-  const { told, collection, error, cure, waits, given, name, files } = entry, note = noteOf(entry);
+  const { told, collection, error, cure = [], waits, given, name, files, note = "" } = entry;
   const logs = given && (waits || error) ? given.logs.filter((it) => kindOf(it) !== "other") : [];
-  // beside a log that can't stay, the next catalogue wouldn't help
-  const words = [...cure ?? [], ...logs.some((it) => files?.includes(it.name)) ? [] : kept(logs)];
+  // beside what is no table, or a table too many, the next catalogue wouldn't help
+  const words = [...cure, ...files && (files.length > 1 || !given?.tables.some((it) => files.includes(it.name))) ? [THE_REST] : kept(logs)];
   const said = [...words.length ? [el("h2", {}, "What to do"), el("ul", { class: "steps" }, words.map((it) => el("li", {}, it)))] : [],
     ...given && files ? leavingOut(given, files) : []];
-  if (error) return [banner({ look: "refused", sign: "?", headline: unanswered(name, error), lights: [] }, printable(name)), ...said];
-  if (waits) return [el("h1", {}, waits), ...said];
-  if (!collection) return told ? view(told) : [];
-  return [...note && !collection.left?.includes(note) ? [el("p", { class: "note" }, note)] : [], ...collectionView(collection, opener, canLeave)];
+  // what stands below isn't said twice
+  const more = (collection?.left ?? []).reduce((words, it) => words.replace(it, ""), note).trim();
+  const noted = more ? [el("p", { class: "note" }, printable(more))] : [];
+  if (error) return [...noted, banner({ look: "refused", sign: "?", headline: unanswered(name, error), lights: [] }, printable(name)), ...said];
+  if (waits) return [...noted, el("h1", {}, waits), ...said];
+  return collection ? [...noted, ...collectionView(collection, opener, canLeave)] : told ? [...noted, ...view(told)] : [];
 }
 
 /**
- * What became of what was here. Of a catalogue that was replaced it is told when it is known how many items the next one has.
- * @param {Entry} entry
- */
-const noteOf = ({ note = "", replaced, collection }) =>
-  printable(replaced && collection ? `${replaced} (${count(collection.items.length, "item")}). ${note}` : note).trimEnd();
-
-/**
- * Buttons that leave files out; of two that are called alike, with when each was changed.
+ * Buttons that leave files out, one for all that are no texts; of two that are called alike, with when each was changed.
  * @param {import("./opened.mjs").Collection} given
  * @param {string[]} files
  */
 function leavingOut({ tables, logs }, files) {
   const all = [...tables, ...logs], alike = all.filter(({ name }) => files.includes(name));
-  return alike.length ? [el("p", { class: "take" }, leaveOut(alike).map(([words, file]) =>
-    button(words, { "data-out": String(all.indexOf(file)) })))] : [];
-}
-
-/** @param {Entry} entry */
-export function titleOfEntry({ told, collection, error, waits, name }) {
-  if (error) return unanswered(name, error);
-  return told ? titleOf(told) : printable(collection ? `${headlineOf(collection)} ${collection.file}` : waits ?? `${name} ..`);
+  const out = (/** @type {Entry[]} */ list) => ({ "data-out": list.map((it) => all.indexOf(it)).join() });
+  const buttons = alike.length > 1 && alike.every(isStrange) ? [button(`Leave out these ${count(alike.length, "file")}`, out(alike))]
+    : leaveOut(alike).map(([words, file]) => button(words, out([file])));
+  return buttons.length ? [el("p", { class: "take" }, buttons)] : [];
 }
 
 /**
@@ -101,19 +94,21 @@ export function titleOfEntry({ told, collection, error, waits, name }) {
 export function overview(entries, current) {
   const many = entries.length, isOne = many < 2;
   several.hidden = isOne;
-  if (isOne || list.childElementCount !== many) list.replaceChildren(...isOne ? [] : entries.map(() => el("li", {}, el("button", { type: "button" }))));
+  if (isOne || list.childElementCount !== many) list.replaceChildren(...isOne ? [] : entries.map(() => el("li", {}, button("", {}))));
   each.replaceChildren();
   if (isOne) return;
   list.querySelectorAll("button").forEach((button, index) => label(button, entries[index], index === current));
-  const whole = entries.filter(({ told }) => told?.object.kind === KIND.COMPLETE).length;
-  const foreign = entries.filter(({ told }) => told && isForeign(told)).length, logs = many - foreign;
+  const tolds = entries.flatMap(({ name, told }) => told ? { name, told } : []), foreign = tolds.filter(({ told }) => isForeign(told)).length;
+  const whole = tolds.filter(({ told }) => told.object.kind === KIND.COMPLETE).length, logs = many - foreign;
   const how = entries.some(isUnanswered) || !logs ? "" : ` Complete: ${whole.toLocaleString("en")} of ${logs.toLocaleString("en")}.`;
-  const words = `${count(logs, "log")}${logs > 1 ? ", each with its own answer" : ""}.${how}${foreign ? ` ${count(foreign, "file isn't a log", "files aren't logs")}.` : ""}`;
-  each.append(el(current < 0 ? "h1" : "p", {}, words), el("p", { class: "hint" }, TOGETHER));
+  const others = foreign ? ` ${count(foreign, "file isn't a log", "files aren't logs")}.` : "";
+  const words = `${count(logs, "log")}${logs > 1 ? ", each with its own answer" : ""}.${how}${others}`;
+  const notes = current < 0 ? [...new Set(entries.flatMap(({ note }) => note || []))].map((it) => el("p", { class: "note" }, printable(it))) : [];
+  each.append(...notes, el(current < 0 ? "h1" : "p", {}, words), el("p", { class: "hint" }, PRESS));
   if (current >= 0) return;
-  const version = entries.flatMap(({ told }) => told ? `, by vicinity ${told.object.version}` : []).find((it) => it) ?? "";
-  const sums = entries.flatMap(({ name, told }) => told ? [el("p", {}, `${printable(name)}: ${told.object.answer} · SHA-256 `,
-    el("code", {}, told.object.sha256))] : []);
+  const sums = tolds.map(({ name, told: { object: { answer, sha256 } } }) =>
+    el("p", {}, `${printable(name)}: ${answer} · SHA-256 `, el("code", {}, sha256)));
+  const version = tolds.length ? `, by vicinity ${tolds[0].told.object.version}` : "";
   shown.replaceChildren(el("footer", { class: "record" }, ...sums, ...signed(words, `${count(many, "file")}${version}`)));
   headed(words);
 }
@@ -143,17 +138,16 @@ const unanswered = (name, error) => printable((error.startsWith(name) ? `${error
  * What becomes of the logs of a collection that has no answer.
  * @param {Entry[]} logs
  */
-const kept = (logs) => logs.some(isLacking) ? [OPEN_AGAIN] : !logs.length ? []
-  : logs.length === 1 ? ["The log is still here: the next catalogue will be compared with it."]
-    : [`The ${count(logs.length, "log")} are still here: the next catalogue will be compared with them.`];
+const kept = (logs) => logs.some(isLacking) ? [OPEN_AGAIN] : logs.length
+  ? [`${count(logs.length, "log is", "logs are")} still here, to be compared with the next catalogue that you open.`] : [];
 
 /**
- * Says what is shown, to whoever doesn't see it.
+ * Says what is shown, in the title and to whoever doesn't see it: nothing of what is pale.
  * @param {string} title
- * @param {string} words nothing of what is pale
+ * @param {string} [note] what became of what was here
  */
-function headed(title, words = document.querySelector("#each h1, #told h1")?.textContent ?? "") {
+function headed(title, note = "") {
+  const said = at("said"), words = note + (heading()?.textContent ?? "");
   document.title = title;
-  const said = at("said");
   if (said.textContent !== words) said.textContent = words;
 }

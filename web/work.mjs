@@ -1,8 +1,8 @@
 /** Judging, in a worker that can be stopped. */
-import { FAILED } from "./words.mjs";
+import { SENTENCES } from "./say/sentences.mjs";
 
-/** @typedef {import("./told.mjs").Told} Told */
-/** @typedef {import("./collection.mjs").CollectionObject} CollectionObject */
+/** @typedef {import("./judge/told.mjs").Told} Told */
+/** @typedef {import("./judge/objects.mjs").CollectionObject} CollectionObject */
 /** @typedef {{told?: Told, collection?: CollectionObject, error?: string, cure?: string[], files?: string[]}} Done
  *   why there is no answer, what to do, and which files can be left out */
 
@@ -19,10 +19,11 @@ export class Work {
   /**
    * @param {string} code the worker's script
    * @param {Uint8Array} module the library as WebAssembly, compressed
+   * @param {Uint8Array} sample a small log
    */
-  constructor(code, module) {
+  constructor(code, module, sample) {
     this.code = URL.createObjectURL(new Blob([code], { type: "text/javascript" }));
-    this.module = module;
+    this.sent = { module, sample };
     this.#begin();
   }
 
@@ -36,12 +37,10 @@ export class Work {
         this.#waiting.delete(id);
         answer?.(done);
       };
-      worker.onerror = () => this.stop(FAILED);
-      worker.postMessage({ module: this.module });
+      worker.onerror = () => this.stop(SENTENCES.failures.none);
+      worker.postMessage(this.sent);
       this.#worker = worker;
-    } catch {
-      // none
-    }
+    } catch {}
   }
 
   get isBusy() { return this.#waiting.size > 0; }
@@ -55,9 +54,7 @@ export class Work {
     if (!this.#worker) this.#begin();
     try {
       /** @type {Worker} */ (this.#worker).postMessage({ id, ...what });
-    } catch {
-      this.stop(FAILED);
-    }
+    } catch { this.stop(SENTENCES.failures.none); }
     return asked;
   }
 

@@ -1,28 +1,38 @@
 /** Judges logs and collections beside the page, which stays alive meanwhile and can end it. */
-import { judge, judgeAll, Wrong } from "./judge.mjs";
-import { Library, OutOfMemory } from "./library.mjs";
+import { judge, judgeAll, Refused } from "./judge/judge.mjs";
+import { Library, OutOfMemory } from "./judge/library.mjs";
+import { tell } from "./judge/told.mjs";
 import { unpacked } from "./packed.mjs";
-import { SENTENCES } from "./sentences.mjs";
-import { tell } from "./told.mjs";
-import { FAILED } from "./words.mjs";
+import { noAnswer } from "./say/refused.mjs";
+import { SENTENCES } from "./say/sentences.mjs";
 
 /** @type {Uint8Array} */
 let module;
-/** @type {Promise<Library>} */
+/** @type {Promise<Library | null>} */
 let loading;
+let isAsked = false;
 
-const load = () => unpacked(module).then(Library.of).catch(() => { throw new Wrong(FAILED); });
+/** How often a small log is judged before anything is asked: a browser compiles well only what has run often. */
+const WARMING = 60;
+
+/** None where no library runs. */
+const load = () => unpacked(module).then(Library.of).catch(() => null);
 
 /**
  * Why there is no answer, in words, and what to do. What has trapped, which each browser calls otherwise, is loaded again.
  * @param {unknown} error
  */
 function why(error) {
-  if (error instanceof Wrong) return { error: error.message, cure: error.cure, files: error.files };
+  if (error instanceof Refused) return noAnswer(error.what);
   if (error instanceof OutOfMemory) return { error: SENTENCES.failures.memory };
   loading = load();
-  loading.catch(() => {});
   return { error: SENTENCES.failures.trap };
+}
+
+/** @param {Uint8Array} sample */
+async function warm(sample) {
+  const library = await loading;
+  for (let left = WARMING; library && left && !isAsked; left--) tell(await judge(library, sample, ""), sample);
 }
 
 onmessage = async ({ data: { id, ...data } }) => {
@@ -30,15 +40,14 @@ onmessage = async ({ data: { id, ...data } }) => {
     if (data.module) {
       module = data.module;
       loading = load();
+      return await warm(data.sample).catch(() => {});
     }
+    isAsked = true;
     const library = await loading;
-    if (data.text) {
-      const told = tell(await judge(library, data.text, data.name), data.text);
-      // the page has its bytes
-      if (!data.isKept) told.object.text = "";
-      postMessage({ id, told });
-    }
-    if (data.files) postMessage({ id, collection: await judgeAll(library, data.files) });
+    if (!library) return postMessage({ id, error: SENTENCES.failures.none });
+    const { text, name, isKept, changed, files } = data;
+    if (text) postMessage({ id, told: tell({ ...await judge(library, text, name, isKept), changed }, text) });
+    if (files) postMessage({ id, collection: await judgeAll(library, files) });
   } catch (error) {
     postMessage({ id, ...why(error) });
   }

@@ -131,6 +131,8 @@ class Asked(Command):
         objects = [log.pop("object") for log in told["logs"]]
         self.assertEqual([it.pop("sha256") for it in told["logs"]],
                          [sha256(Path(name).read_bytes()).hexdigest() for name in SHELVES])
+        self.assertEqual([it.pop("changed") for it in told["logs"]],
+                         [Path(name).stat().st_mtime_ns // 1_000_000 for name in SHELVES])
         self.assertEqual([[it["file"], it["answer"]] for it in objects], [
             ["shelf-a.log", "complete 4"], ["shelf-b.log", "complete 3"],
             ["shelf-c.log", "unsettled 4 0E"]])

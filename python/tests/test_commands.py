@@ -7,8 +7,8 @@ import subprocess
 import sys
 from unittest import mock
 
-from cases import (ALL, ALONE, ANSWERS, CAPTURED_A, HEARD_A, LIST_A, NAMES, SILENCE_A, SIXTEEN,
-                   Command, command, least, log, on_a_terminal, third, within)
+from cases import (ALL, ALONE, ANSWERS, CAPTURED_A, HEARD_A, LIST_A, NAMES, Command, command,
+                   least, log, on_a_terminal, third, within)
 import vicinity.__main__
 
 COMPLETE = log(ALL + b"S\n")
@@ -122,7 +122,7 @@ class Words(Command):
     def test_help_and_version(self):
         said, errors, status = within("--help")
         self.assertEqual((errors, status), (b"", 0))
-        for name in vicinity.__main__.words()[1]:
+        for name in vicinity.__main__.parsers()[1]:
             self.assertIn(f"    {name}", said.decode())
             there, errors, status = within(name, "--help")
             self.assertEqual((there.split()[4].decode(), errors, status), (name, b"", 0))
@@ -161,24 +161,6 @@ class Words(Command):
                              ("refused", is_cut), lines)
         self.assertNotIn(b"was it cut?",
                          within("report", "--json", self.write("empty.log", b""))[0])
-
-    def test_a_last_round_that_does_not_ask_all(self):
-        request = vicinity.write_inventory(2, 1, vicinity.Mask(8, 0xB2))
-        last = vicinity.write_line("T", request) + b"S\n"
-        for before, missed in ((ALL + HEARD_A, "stronger replies hid"),
-                               (b"", "no earlier round asked"),
-                               (SIXTEEN + b"S\n" * 15, "no earlier round asked"),
-                               (SIXTEEN + b"S\n" + HEARD_A + b"S\n" * 14, "stronger")):
-            said = within("report", self.write("some.log", log(before + last)))[0].decode()
-            self.assertIn(f"the last round didn't ask all tags: one that {missed}", said)
-        alone = ALL + HEARD_A + SILENCE_A + ALL + b"S\n" + last + LIST_A
-        even, odd = (vicinity.write_line("T", vicinity.write_inventory(2, 1, vicinity.Mask(1, bit)))
-                     for bit in (0, 1))
-        # in the others no reply can have hidden a tag; in the last one two rounds asked all
-        for lines in (last + ALL + b"S\n", ALL + b"S\n" + last, alone,
-                      even + b"S\n" + odd + b"S\n"):
-            self.assertNotIn("last round",
-                             within("report", self.write("some.log", log(lines)))[0].decode())
 
     def test_options_are_not_abbreviated(self):
         self.assertEqual(within("check", "--tab", self.names[0])[::2], (b"", 4))
@@ -289,10 +271,10 @@ class Streams(Command):
         """Its mode can't be set. Of a traceback the status would be 1, which is an answer."""
         there = """
 import os, sys, types
-from vicinity._process import read, run
+from vicinity._process import read, run_command
 sys.modules["msvcrt"] = types.SimpleNamespace(setmode=lambda file, _: os.fstat(file))
 sys.platform, os.O_BINARY = "win32", 0
-sys.exit(run(lambda: len(read("-"))))
+sys.exit(run_command(lambda: len(read("-"))))
 """
         for closed, why in (("<&-", b"vicinity: cannot read -: Bad file descriptor\n"),
                             (">&- </dev/null", b"")):
@@ -324,7 +306,8 @@ sys.exit(run(lambda: len(read("-"))))
         self.assertEqual((*ran.communicate(), ran.returncode), (b"", b"", -signal.SIGINT))
 
     def test_a_defect_is_no_answer(self):
-        code = "import sys; from vicinity._process import run; sys.exit(run(lambda: 1 // 0))"
+        code = ("import sys; from vicinity._process import run_command\n"
+                "sys.exit(run_command(lambda: 1 // 0))")
         ran = subprocess.run([sys.executable, "-c", code], capture_output=True)
         said = b"vicinity: ZeroDivisionError: integer division or modulo by zero\n"
         self.assertEqual((ran.stdout, ran.stderr, ran.returncode), (b"", said, 4))

@@ -103,8 +103,8 @@ class Said(Command):
     def test_in_a_terminal(self):
         for lines, wanted in (
                 (TWICE + LIST_A, f"Each other {ASKED}: 2 times or more"),
-                (ALL + b"S\n", f"Each {ASKED}: 1 time or more"),
-                (ONCE_B + LIST_A, f"Each other {ASKED}: 1 time or more"),
+                (ALL + b"S\n", f"Each {ASKED}: once or more"),
+                (ONCE_B + LIST_A, f"Each other {ASKED}: once or more"),
                 (OFTEN + LIST_A + LIST_B,
                  "line 3: absent E0040100000000A1 would have been missed in 4 slots"),
                 (ALL + b"S\n" + LIST_A,

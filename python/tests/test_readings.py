@@ -10,8 +10,8 @@ from cases import (ALL, ALONE, ANSWERS, CAPTURED_A, CAPTURED_B, HEARD_A, HEARD_B
 from helpers.frames import hex_of
 from helpers.lines import log_of, rows
 from helpers.records import drawn_in
-from vicinity.sessions.findings import Told
-from vicinity.sessions.headline import headline, lights
+from vicinity.logs.findings import JudgedLog
+from vicinity.logs.headline import headline, lights
 
 BROKEN = "This count can't be used. The log contradicts itself: "
 HOLDS = {"holds": True}
@@ -28,7 +28,7 @@ READINGS = [({**HOLDS, "margin": 1, "weakest": NONE}, ANY), (OPEN, OPEN),
 ASK = ("To know whether a strong reply hid a weaker one, silence each tag that was heard, and ask "
        "all in one slot, until none answers:")
 DEAF = ("To know whether the reader still heard at the end, switch the field off and on, write F, "
-        "and ask for a tag that was found: it has to answer.")
+        "and ask for a tag that was found.")
 QUIET_A = SILENCE_A.decode().strip()
 #: Four tags, each read in a slot of its own, over which others may have been.
 FOUR = SIXTEEN + b"".join(
@@ -80,7 +80,7 @@ class Said(Command):
         for text, wanted, not_said in (
                 (log(ALONE + LIST_A), f"{hidden}: still complete; {deaf}: others may be here", ASK),
                 (b"vicinity-log 2\n" + CURED + LIST_A, f"{deaf}: still complete", "To know"),
-                (log(ALL + b"S\n"), f"Each tag was asked: 1 time or more; {hidden}: still empty; "
+                (log(ALL + b"S\n"), f"Each tag was asked: once or more; {hidden}: still empty; "
                  f"{deaf}: tags may be here", "To know"),
                 (log(ALL + HEARD_A), f"{hidden}: others may be here; {deaf}: others", "still"),
                 (log(ALL + HEARD_A + LIST_A), f"{hidden}: others may be here", "and no other"),
@@ -105,13 +105,13 @@ class Said(Command):
                 (log(ALONE + LIST_A), DEAF + " That takes a log of version 2 or 3: one of "
                  "version 1 has no line for it."),
                 (third(ALONE + b"F\n" + CURED[-len(HEARD_A) - 27:] + LIST_A),),
-                (third(alone), "T 060100CD09 asks all UIDs"),
+                (third(alone), "Left to ask; add the new lines to the log, and judge it again:",
+                 "T 060100CD09 asks all UIDs"),
                 (third(silenced), "Switch the field off and on, write F, and send 1 request for "
                  "tags that were silenced before they were heard: only then do they answer.", "F",
                  f"T {hex_of(bytes.fromhex('260138B2000000000104'))} asks E0040100000000B2"),
                 (log(silenced), "Tags that were silenced before they were heard answer only after "
-                 "the field was switched off and on, and a log of version 1 has no line for that. "
-                 "Begin a new log, of version 3, and ask for the whole field again.")):
+                 "a field cycle: begin a new log, of version 3.")):
             for columns in "40", "80":
                 with mock.patch.dict("os.environ", COLUMNS=columns):
                     said = within("show", self.write("one.log", text))[0].decode()
@@ -120,6 +120,15 @@ class Said(Command):
                 self.assertEqual(" ".join(" ".join(part).split()), " ".join(wanted))
                 for request in wanted[1:]:
                     self.assertIn(f"\n{request.split(' asks')[0]}", said)
+
+    def test_in_a_narrow_terminal(self):
+        """Where rounds take all lines, one says that there are requests."""
+        file = self.write("one.log", log(SIXTEEN + b"S\n" * 9))
+        for columns, asks in ("1", "\u22ee  more"), ("20", "\u22ee  more"), ("39", "T 060100CD09"):
+            with mock.patch.dict("os.environ", COLUMNS=columns):
+                said, errors, status = within("show", file)
+            self.assertEqual((errors, status), (b"", 1))
+            self.assertIn(f"\n{asks}".encode(), said)
 
 
 class Page(Command):
@@ -137,18 +146,18 @@ class Page(Command):
         """Of a contradiction the page says more."""
         for names, wanted in self.rows_of("headline", 30):
             wanted = BROKEN if wanted.startswith(BROKEN) else wanted
-            self.assertEqual(headline(Told(log_of(names)))[:len(wanted)], wanted, names)
+            self.assertEqual(headline(JudgedLog(log_of(names)))[:len(wanted)], wanted, names)
 
     def test_lights(self):
         """None of a text that is refused."""
         for names, wanted in self.rows_of("lights", 10):
-            said = dict(lights(Told(log_of(names))))
+            said = dict(lights(JudgedLog(log_of(names))))
             values = [said[name] for name in ("Search finished", "List") if name in said]
             self.assertEqual(" / ".join(values), wanted, names)
 
     def test_how_sure(self):
         for names, wanted in self.rows_of("sure", 12):
-            said = dict(lights(Told(log_of(names))))
+            said = dict(lights(JudgedLog(log_of(names))))
             asked = said.get("Each other tag was asked", said.get("Each tag was asked", "-"))
             values = [asked, *(said.get(name, "-") for name in (
                 "If replies were hidden", "If the reader went deaf"))]
@@ -199,11 +208,3 @@ class Sessions(Command):
     def test_a_silenced_tag_that_was_heard_is_not_noted(self):
         self.assertNotIn("never heard", self.noted(ALONE.replace(b"R ", b"H ")))
         self.assertIn("never heard", self.noted(SILENCE_B + ALONE))
-
-    def test_a_last_round_with_a_slot_of_which_nothing_is_known(self):
-        """It asked all tags, though not all were heard."""
-        for last, noted in ((b"N\n", True), (b"S\n", False)):
-            note = "of a slot of the last round, which asked all tags, nothing is known"
-            said = self.noted(SIXTEEN + b"S\n" * 15 + last)
-            self.assertEqual(note in said, noted)
-            self.assertNotIn("didn't ask all", said)

@@ -1,7 +1,5 @@
 """The commands of the package: `python3 -m vicinity --help` lists them,
 and `COMMAND --help` explains one."""
-from __future__ import annotations
-
 import argparse
 import os
 import sys
@@ -10,7 +8,7 @@ from importlib import import_module
 from typing import Any, Callable, Mapping, NoReturn, Optional, Sequence
 
 from . import __version__
-from ._process import NoAnswer, run, shown, write
+from ._process import NoAnswer, run_command, shown, write
 
 ABOUT = """\
 Judges logs of inventories of ISO/IEC 15693 tags. Without a command, a LOG is checked:
@@ -33,31 +31,33 @@ WRITTEN = "The exit status: 0 it is written, 3 what is given is refused, 4 no an
 class Once(argparse.Action):
     """An option that may be given once: of two values, one would be ignored."""
 
-    def __call__(self, parser: argparse.ArgumentParser, asked: argparse.Namespace, value: Any,
+    def __call__(self, parser: argparse.ArgumentParser, arguments: argparse.Namespace, value: Any,
                  option: Optional[str] = None) -> None:
-        if option in vars(asked).setdefault("once", []):
+        options = vars(arguments).setdefault("once", set())
+        if option in options:
             raise argparse.ArgumentError(self, "it is given twice")
-        asked.once += [option] * (option is not None)
-        setattr(asked, self.dest, value)
+        if option:
+            options.add(option)
+        setattr(arguments, self.dest, value)
 
 
-class Words(argparse.ArgumentParser):
-    """The arguments of a command. Its options may be anywhere before `--`;
+class Parser(argparse.ArgumentParser):
+    """Reads the words of a command. Its options may be anywhere before `--`;
     what comes after is names."""
 
-    def __init__(self, **given: Any):
-        super().__init__(**given)
+    def __init__(self, **settings: Any):
+        super().__init__(**settings, allow_abbrev=False, formatter_class=Help)
         self.register("action", None, Once)
 
     def parse(self, words: Sequence[str]) -> argparse.Namespace:
         at = words.index("--") if "--" in words else len(words)
-        asked = self.parse_intermixed_args(words[:at])
-        asked.names = [*asked.names, *words[at + 1:]]
-        least, most = asked.number
-        if not least <= len(asked.names) <= most:
-            self.error("a word is missing" if len(asked.names) < least
-                       else f"a word too many: {asked.names[most]}")
-        return asked
+        arguments = self.parse_intermixed_args(words[:at])
+        arguments.names = names = [*arguments.names, *words[at + 1:]]
+        least, most = arguments.number
+        if not least <= len(names) <= most:
+            self.error("a word is missing" if len(names) < least
+                       else f"a word too many: {names[most]}")
+        return arguments
 
     def error(self, message: str) -> NoReturn:
         raise NoAnswer(f"{shown(message)}\n{self.format_usage().rstrip()}")
@@ -75,7 +75,6 @@ class Help(argparse.RawDescriptionHelpFormatter):
             super()._format_args(action, default_metavar)
 
 
-LOOK: Mapping[str, Any] = {"allow_abbrev": False, "formatter_class": Help}
 ANY = sys.maxsize
 #: A log has fewer slots than this.
 MOST_MARGIN = 999_999
@@ -85,21 +84,21 @@ GONE = {name: f"it is a command of the program: vicinity {name}"
 GONE["reconcile"] = "use collection CATALOGUE [PLACES] LOG .., or vicinity reconcile for a list"
 
 
-def words() -> tuple[Words, Mapping[str, Words]]:
-    """The words of all commands, and of each."""
+def parsers() -> tuple[Parser, Mapping[str, Parser]]:
+    """The parser of the package, and those of its commands."""
     is_module = os.path.basename(sys.argv[0]) == "__main__.py"
-    top = Words(prog="python3 -m vicinity" if is_module else None, description=ABOUT,
-                epilog=STATUSES, **LOOK)
+    top = Parser(prog="python3 -m vicinity" if is_module else None, description=ABOUT,
+                 epilog=STATUSES)
     top.add_argument("--version", action="version", version=__version__)
-    commands = top.add_subparsers(metavar="COMMAND", parser_class=Words)
+    commands = top.add_subparsers(metavar="COMMAND", parser_class=Parser)
 
-    def add(name: str, does: str, what: str, names: str = "LOG", least: int = 1, most: int = 1,
-            ends: str = STATUSES, **forms: str) -> Words:
+    def add(name: str, function: str, what: str, names: str = "LOG", least: int = 1, most: int = 1,
+            ends: str = STATUSES, **forms: str) -> Parser:
         """A command, with the function that does it as MODULE.FUNCTION, and what it does
         for people. It takes so many names, ends with one of these statuses, and writes in
-        one of these forms, of which the first is meant where none is asked for."""
-        command: Words = commands.add_parser(name, help=what, description=what, epilog=ends, **LOOK)
-        command.set_defaults(does=does, number=(least, most), form=next(iter(forms), ""))
+        one of these forms, of which the first is the default."""
+        command: Parser = commands.add_parser(name, help=what, description=what, epilog=ends)
+        command.set_defaults(function=function, number=(least, most), form=next(iter(forms), ""))
         command.add_argument("names", metavar=names, nargs="*")
         group = command.add_mutually_exclusive_group() if forms else command
         for form, text in forms.items():
@@ -161,22 +160,21 @@ def _chance(word: str) -> float:
 
 def main() -> int:
     """Does what the words ask for, and returns the status."""
-    (top, commands), given = words(), sys.argv[1:]
-    if not given or given[0] in ("-h", "--help", "--version"):
-        top.parse_args(given)
+    (top, commands), words = parsers(), sys.argv[1:]
+    if not words or words[0] in ("-h", "--help", "--version"):
+        top.parse_args(words)
         top.error("name a command or a log")
-    if given[0] in GONE:
-        raise NoAnswer(f"{given[0]} is no command here: {GONE[given[0]]}")
-    name = given.pop(0) if given[0] in commands else "check"
-    asked = commands[name].parse(given)
-    module, _, function = asked.does.partition(".")
-    status: int = getattr(import_module(f"vicinity.commands.{module}"), function)(asked)
-    return status
+    if words[0] in GONE:
+        raise NoAnswer(f"{words[0]} is no command here: {GONE[words[0]]}")
+    name = words.pop(0) if words[0] in commands else "check"
+    arguments = commands[name].parse(words)
+    module, _, function = arguments.function.partition(".")
+    return int(getattr(import_module(f"vicinity.commands.{module}"), function)(arguments))
 
 
 def entry() -> int:
     """The command that is installed with the package."""
-    return run(main)
+    return run_command(main)
 
 
 if __name__ == "__main__":

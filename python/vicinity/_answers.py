@@ -1,6 +1,4 @@
 """What an answer is, with the numbers of vicinity.h."""
-from __future__ import annotations
-
 import enum
 from typing import NamedTuple, Optional
 
@@ -115,6 +113,9 @@ class Explanation(NamedTuple):
     answer: Answer
     population: list[int]
 
+    def __bool__(self) -> bool:
+        return self.answer.is_complete
+
 
 class FindingKind(enum.IntEnum):
     """What a finding is. The first four have the same numbers as the answers."""
@@ -166,6 +167,9 @@ class Report(NamedTuple):
     answer: Answer
     findings: list[Finding]
 
+    def __bool__(self) -> bool:
+        return self.answer.is_complete
+
     def __str__(self) -> str:
         """What `vicinity report` writes, without its last LF."""
         first = [] if self.answer.status == 1 else [self.answer.text]
@@ -199,15 +203,17 @@ class Margin(NamedTuple):
     answer: Answer
     weakest: Optional[Weakest]
 
+    def __bool__(self) -> bool:
+        return self.answer.is_complete
+
     def __str__(self) -> str:
         """What `vicinity margin` writes, without its last LF."""
         if self.weakest is None or not self.answer.is_complete:
             return self.answer.text
         margin, *masks = self.weakest
-        names = ("weakest", "hidden", "deaf")
         return "\n".join([str(self.answer), f"margin {margin}", *(
             f"{name} {mask.length} {mask.digits}" if mask else f"{name} -"
-            for name, mask in zip(names, masks))])
+            for name, mask in zip(("weakest", "hidden", "deaf"), masks))])
 
 
 class Simulation(NamedTuple):
@@ -216,8 +222,3 @@ class Simulation(NamedTuple):
 
     status: int
     text: bytes
-
-
-# so that `if margin(log)` isn't true of every answer
-for _found in (Explanation, Report, Margin):
-    setattr(_found, "__bool__", lambda found: found.answer.is_complete)

@@ -1,6 +1,4 @@
 """The calls of the library, for Python."""
-from __future__ import annotations
-
 import ctypes
 import struct
 from array import array
@@ -37,23 +35,24 @@ def _numbers(uids: Collection[int]) -> ctypes.Array[ctypes.c_uint64]:
     return place.from_buffer(numbers) if numbers else place()
 
 
-def _asked(name: str, given: Sequence[Any], *filled: Any) -> ctypes.Structure:
-    """What a call answers, beside what it fills."""
-    told = AnswerStruct()
-    getattr(library(), f"vicinity_{name}")(*given, ctypes.byref(told), *filled)
-    return told
+def _call(name: str, inputs: Sequence[Any], *outputs: Any) -> ctypes.Structure:
+    """The struct of the answer that a call fills, beside other outputs."""
+    answer = AnswerStruct()
+    getattr(library(), f"vicinity_{name}")(*inputs, ctypes.byref(answer), *outputs)
+    return answer
 
 
-def _answer(told: ctypes.Structure) -> Answer:
-    if told.kind == 0:
+def _answer(fields: ctypes.Structure) -> Answer:
+    if fields.kind == 0:
         raise MemoryError("vicinity: out of memory")
-    return Answer(Kind(told.kind), told.status, told.count, told.line, Fault(told.fault),
-                  told.mask_len, told.mask_value, told.uid, told.text.decode("ascii").rstrip("\n"))
+    return Answer(Kind(fields.kind), fields.status, fields.count, fields.line, Fault(fields.fault),
+                  fields.mask_len, fields.mask_value, fields.uid,
+                  fields.text.decode("ascii").rstrip("\n"))
 
 
-def _margin(name: str, given: Sequence[Any]) -> Margin:
+def _margin(name: str, inputs: Sequence[Any]) -> Margin:
     least = WeakestStruct()
-    answer = _answer(_asked(name, given, ctypes.byref(least)))
+    answer = _answer(_call(name, inputs, ctypes.byref(least)))
     return Margin(answer, None if answer.status > 1 else
                   Weakest(least.margin, Mask(least.mask_len, least.mask_value),
                           Mask(least.hidden_len, least.hidden_value) if least.has_hidden else None,
@@ -65,7 +64,7 @@ def check(text: BytesLike) -> Answer:
 
     Raises TypeError if the text isn't bytes or similar, MemoryError if memory is refused,
     and OSError if the shared library can't be loaded."""
-    return _answer(_asked("check", text_of(text)))
+    return _answer(_call("check", text_of(text)))
 
 
 def check_listed(text: BytesLike, uids: Collection[int]) -> Answer:
@@ -75,13 +74,13 @@ def check_listed(text: BytesLike, uids: Collection[int]) -> Answer:
     Raises what `check` raises, TypeError if the UIDs are an iterator, as a generator, a map or a
     csv.reader (one that is used up would be an empty list), and OverflowError if one exceeds 64
     bits."""
-    return _answer(_asked("check_listed", _text_and_list(text, uids)))
+    return _answer(_call("check_listed", _text_and_list(text, uids)))
 
 
 def explain(text: BytesLike) -> Explanation:
     """The answer to a text, and the UIDs of tags that show it. Raises what `check` raises."""
-    told, room, count = filled(partial(_asked, "explain", text_of(text)), U64, FIRST_ROOM)
-    return Explanation(_answer(told), room[:count])
+    answer, room, count = filled(partial(_call, "explain", text_of(text)), U64, FIRST_ROOM)
+    return Explanation(_answer(answer), room[:count])
 
 
 def explain_into(text: BytesLike, room: ctypes.Array[ctypes.c_uint64]) -> tuple[Answer, int]:
@@ -89,16 +88,16 @@ def explain_into(text: BytesLike, room: ctypes.Array[ctypes.c_uint64]) -> tuple[
     They are put at the start of the buffer `room` if they fit; otherwise it stays as it is.
     Raises what `check` raises."""
     needed = ctypes.c_size_t()
-    told = _asked("explain", text_of(text), room, len(room), ctypes.byref(needed))
-    return _answer(told), needed.value
+    answer = _call("explain", text_of(text), room, len(room), ctypes.byref(needed))
+    return _answer(answer), needed.value
 
 
 def report(text: BytesLike) -> Report:
     """The answer to a text, and every finding. Raises what `check` raises."""
-    told, room, count = filled(partial(_asked, "report", text_of(text)), FindingStruct, FIRST_ROOM)
+    answer, room, count = filled(partial(_call, "report", text_of(text)), FindingStruct, FIRST_ROOM)
     findings = memoryview(room).cast("B")[:count * PACKED_FINDING.size]
     kinds = {kind.value: kind for kind in FindingKind}  # quicker than a call for each
-    return Report(_answer(told), [
+    return Report(_answer(answer), [
         Finding(kinds[kind], line, mask_len, mask_value, uid)
         for kind, line, mask_len, _, mask_value, uid in PACKED_FINDING.iter_unpack(findings)])
 

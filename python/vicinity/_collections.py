@@ -1,13 +1,12 @@
 """What many logs say of a catalogue: the object that the library writes, as types."""
-from __future__ import annotations
-
 import json
+from contextlib import suppress
 from dataclasses import dataclass
-from typing import Any, Mapping, Optional
+from typing import Any, Callable, Mapping, Optional
 
 from ._answers import Mask
-from ._native import BytesLike
-from ._objects import SCHEMA, mask_of
+from ._native import BytesLike, T
+from ._objects import SCHEMA, Fields, Object, mask_of
 from ._run import Written, run
 
 
@@ -103,21 +102,29 @@ class CollectionRefused(ValueError):
     """A table, or a text of surveys, is refused: the text is the line that the program writes."""
 
 
-#: The type that has a key, the first of these.
-TYPES: Mapping[str, type] = {"state": Item, "field": Log, "certain_in": Found, "log": Least,
-                             "answer": Collection}
+def _mask_or_fields(fields: Object) -> Any:
+    return mask_of(fields) if "mask_len" in fields else fields
 
 
-def _made(said: dict[str, Any]) -> Any:
-    """What an object of the library is here."""
-    if "mask_len" in said:
-        return mask_of(said)
-    kind = next((kind for key, kind in TYPES.items() if key in said), None)
-    if kind is None:
-        return said
-    return kind(**{key: int(it, 16) if key == "uid" and it else
-                   tuple(it) if isinstance(it, list) else it
-                   for key, it in said.items() if key != "schema"})
+def _made(kind: Callable[..., T], fields: Fields, **parts: Any) -> T:
+    """A type of its fields, and of parts that are made already."""
+    values = {key: int(value, 16) if key == "uid" and value else
+              tuple(value) if isinstance(value, list) else value
+              for key, value in fields.items() if key not in ("schema", *parts)}
+    return kind(**values, **parts)
+
+
+def _all(kind: Callable[..., T], objects: list[Any]) -> tuple[T, ...]:
+    """Each object as its type, in its place, so that memory never has all of both."""
+    for index, fields in enumerate(objects):
+        objects[index] = _made(kind, fields)
+    return tuple(objects)
+
+
+def _collection(fields: Fields) -> Collection:
+    return _made(Collection, fields, items=_all(Item, fields["items"]),
+                 unexpected=_all(Found, fields["unexpected"]), logs=_all(Log, fields["logs"]),
+                 margin=_made(Least, fields["margin"]) if "margin" in fields else None)
 
 
 def survey(text: BytesLike, name: str) -> Written:
@@ -133,18 +140,16 @@ def collection(files: Mapping[str, BytesLike]) -> Collection:
     tell apart.
 
     Raises CollectionRefused if one of the tables or surveys is refused, and what `run` raises."""
-    said = run("json-collection", *files.values(), names=list(files))
-    if not said.text.startswith(b"{"):
-        raise CollectionRefused(said.text.decode().rstrip("\n"))
-    found: Collection = json.loads(said.text, object_hook=_made)
-    return found
+    written = run("json-collection", *files.values(), names=list(files))
+    if not written.text.startswith(b"{"):
+        raise CollectionRefused(written.text.decode().rstrip("\n"))
+    return _collection(json.loads(written.text, object_hook=_mask_or_fields))
 
 
-def as_object(written: bytes) -> Optional[dict[str, Any]]:
+def as_object(written: bytes) -> Optional[Object]:
     """The object of a collection, as it is written; None if this is none."""
-    try:
-        said = json.loads(written)
-        is_one = said["schema"] == SCHEMA and {*Collection.__annotations__} - {"margin"} <= {*said}
-    except (ValueError, KeyError, TypeError, RecursionError):
-        return None
-    return said if is_one else None
+    with suppress(ValueError, KeyError, TypeError, RecursionError):
+        fields: Object = json.loads(written)
+        if fields["schema"] == SCHEMA and {*Collection.__annotations__} - {"margin"} <= {*fields}:
+            return fields
+    return None

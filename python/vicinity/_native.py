@@ -1,6 +1,4 @@
 """The shared library, as ctypes sees it."""
-from __future__ import annotations
-
 import ctypes
 import functools
 import mmap
@@ -98,12 +96,12 @@ def room_of(place: Any, places: int) -> Any:
 
 def filled(call: Callable[..., T], place: Any, places: int) -> tuple[T, Any, int]:
     """Makes a call that fills a buffer, first with so many elements, and again if it needs more:
-    what it answers, the buffer, and how many of its elements are filled."""
+    what it returns, the buffer, and how many of its elements are filled."""
     while True:
         room, needed = room_of(place, places), ctypes.c_size_t()
-        told = call(room, places, ctypes.byref(needed))
+        result = call(room, places, ctypes.byref(needed))
         if needed.value <= places:
-            return told, room, needed.value
+            return result, room, needed.value
         places = needed.value
 
 
@@ -148,14 +146,14 @@ def library() -> ctypes.CDLL:
 def _file_of(name: str) -> str:
     """Where the system found a library, if it tells."""
     with suppress(OSError), open("/proc/self/maps", encoding="utf-8", errors="replace") as maps:
-        found = (line.split(maxsplit=5)[-1].rstrip() for line in maps if f"/{name}" in line)
-        return next(found, name)
+        files = (line.split(maxsplit=5)[-1].rstrip() for line in maps if f"/{name}" in line)
+        return next(files, name)
     return name
 
 
 @functools.lru_cache(maxsize=None)
 def name_of(what: str, number: int) -> str:
     """The name that the library has for a number of a kind or a fault."""
-    told = NameStruct()
-    getattr(library(), f"vicinity_{what}_name")(number, ctypes.byref(told))
-    return bytes(told.text).decode("ascii")
+    name = NameStruct()
+    getattr(library(), f"vicinity_{what}_name")(number, ctypes.byref(name))
+    return bytes(name.text).decode("ascii")

@@ -1,13 +1,11 @@
 """What every command shares: how it reads and writes, and how it ends.
 
-A command is a function of its arguments that returns its status, and `run` runs it.
+A command is a function of its arguments that returns its status, and `run_command` runs it.
 It reads with `read`, writes with `write`, and shows the name of a file with `shown`.
 If it has no answer it raises NoAnswer, MemoryError or OSError:
 then a line is written to standard error, and the status is 4. Nothing goes through sys.stdout
 or sys.stderr, so a closed or full stream is noticed at once, and no traceback is written.
 """
-from __future__ import annotations
-
 import argparse
 import errno
 import io
@@ -15,23 +13,27 @@ import locale
 import os
 import signal
 import sys
-from typing import Callable, Iterable, TypeVar, Union
+from contextlib import suppress
+from typing import Callable, Iterable, Union
+
+from ._native import T
+from ._run import NO_ANSWER
 
 # Within these bytes, a longer log has a line that is too long, or too many lines:
 # 1,000,000 lines of 130 bytes, plus one.
 MOST_BYTES = 1_000_000 * 130 + 1
 PIECE = 1 << 16
-#: Statuses: an input is refused, and there is no answer.
-REFUSED, NO_ANSWER = 3, 4
-
-T = TypeVar("T")
+#: The status where an input is refused.
+REFUSED = 3
+#: What the words of a command ask for, as `__main__` has read them.
+Arguments = argparse.Namespace
 
 
 class NoAnswer(Exception):
     """Why there is no answer."""
 
 
-def run(command: Callable[[], int]) -> int:
+def run_command(command: Callable[[], int]) -> int:
     """The status of a command, which is 4 if it has no answer."""
     signal.signal(signal.SIGINT, signal.SIG_DFL)  # also while the library judges
     sys.unraisablehook = lambda _: None  # failures while something is released as memory runs out
@@ -108,11 +110,11 @@ def tried(name: str, call: Callable[[bytes], T]) -> Union[T, str]:
         return f"out of memory: {shown(name)}"
 
 
-def names_of(asked: argparse.Namespace) -> list[str]:
+def names_of(arguments: Arguments) -> list[str]:
     """The names of logs among the words, and those in files, separated by NUL if there is any,
     else by line ends. Each of these files has to name one."""
-    names = list(asked.names)
-    for file in asked.logs_from:
+    names = list(arguments.names)
+    for file in arguments.logs_from:
         listed = read(file).replace(os.linesep.encode(), b"\n")
         separator = b"\0" if b"\0" in listed else b"\n"
         within = list(map(os.fsdecode, filter(None, listed.split(separator))))
@@ -155,8 +157,8 @@ def shown(name: Union[str, bytes]) -> str:
     except UnicodeEncodeError:  # no name of a file, but of a place or of another machine's log
         encoded = str(name).encode("utf-8", "surrogatepass")
     text = encoded.replace(b"\\", b"\\\\").decode("utf-8", "backslashreplace")
-    return "".join(it if it.isprintable() else {"\t": "\\t", "\n": "\\n"}.get(it) or
-                   "".join(f"\\x{byte:02x}" for byte in it.encode()) for it in text)
+    return "".join(sign if sign.isprintable() else {"\t": "\\t", "\n": "\\n"}.get(sign) or
+                   "".join(f"\\x{byte:02x}" for byte in sign.encode()) for sign in text)
 
 
 def tell_terminal(lines: Iterable[str]) -> None:
@@ -167,10 +169,8 @@ def tell_terminal(lines: Iterable[str]) -> None:
 
 def _note(*pieces: str) -> None:
     """Writes to standard error, if it can."""
-    try:
+    with suppress(OSError, MemoryError):
         os.write(2, _encoded("".join(pieces)))
-    except (OSError, MemoryError):
-        pass
 
 
 def has_colours() -> bool:

@@ -1,6 +1,4 @@
 """What the program does, over texts in memory."""
-from __future__ import annotations
-
 import ctypes
 from functools import partial
 from typing import NamedTuple, Sequence
@@ -10,6 +8,7 @@ from ._native import COMMANDS, BytesLike, bytes_of, filled, library
 #: How much room there is at first, so that most answers aren't worked out twice: so much, and
 #: so many times that of the texts, where an answer isn't short.
 FIRST_ROOM, OF_TEXT, SHORT = 1 << 19, 4, ("check", "margin", "json")
+#: The status where there is no answer.
 NO_ANSWER = 4
 
 
@@ -41,12 +40,12 @@ def run(command: str, *texts: BytesLike, names: Sequence[str] = ()) -> Written:
     memory is refused, and OSError if the shared library can't be loaded."""
     if command not in COMMANDS:
         raise ValueError(f"no command of the program: {command!r}")
-    given = [bytes_of(text) for text in texts]
-    joined, lines = b"".join(given), _names(names, len(given))
-    lengths = (ctypes.c_size_t * len(given))(*map(len, given))
+    copies = [bytes_of(text) for text in texts]
+    joined, lines = b"".join(copies), _names(names, len(copies))
+    lengths = (ctypes.c_size_t * len(copies))(*map(len, copies))
     places = FIRST_ROOM + OF_TEXT * len(joined) * (command not in SHORT)
     call = partial(library().vicinity_run, COMMANDS.index(command) + 1, lines, len(lines), joined,
-                   len(joined), lengths, len(given))
+                   len(joined), lengths, len(copies))
     status, room, count = filled(call, ctypes.c_uint8, places)
     if status == NO_ANSWER and count:
         raise ValueError(f"these texts aren't what {command} takes")

@@ -1,7 +1,5 @@
 """Frames read and written, lines of a log, and which tags answer in a slot:
 library calls that allocate no memory."""
-from __future__ import annotations
-
 import ctypes
 import re
 from typing import NamedTuple, Union
@@ -36,7 +34,7 @@ class FrameFault(ValueError):
         super().__init__(f"{fault.word}: {fault.wrong}")
         self.fault = fault
 
-    def __reduce__(self) -> tuple[type[FrameFault], tuple[Fault]]:
+    def __reduce__(self) -> "tuple[type[FrameFault], tuple[Fault]]":
         """How it travels between processes."""
         return FrameFault, (self.fault,)
 
@@ -50,8 +48,8 @@ def parse_uid(text: str) -> int:
     """The UID in a text: 16 hex digits in either case, E0 first.
     Colons, dashes and spaces may be among them, 0x or an apostrophe before them.
     Raises ValueError if it isn't one."""
-    found = DIGITS.fullmatch(BETWEEN_DIGITS.sub("", text))
-    digits = found[1].upper() if found else ""
+    match = DIGITS.fullmatch(BETWEEN_DIGITS.sub("", text))
+    digits = match[1].upper() if match else ""
     if digits.startswith("E0"):
         return int(digits, 16)
     raise ValueError(f"{text!r} isn't a UID: 16 hex digits that begin with E0"
@@ -77,14 +75,14 @@ class Reply(NamedTuple):
 
 def read_request(frame: BytesLike) -> Request:
     """The fields of a request's frame, CRC included. Raises FrameFault if it isn't one."""
-    told = _made("read_request", RequestStruct(), *text_of(frame))
-    return Request(told.link, told.slots, Mask(told.mask_len, told.mask_value), told.uid)
+    fields = _filled("read_request", RequestStruct(), *text_of(frame))
+    return Request(fields.link, fields.slots, Mask(fields.mask_len, fields.mask_value), fields.uid)
 
 
 def read_response(frame: BytesLike) -> Reply:
     """The fields of a reply's frame, CRC included. Raises FrameFault if it isn't one."""
-    told = _made("read_response", ReplyStruct(), *text_of(frame))
-    return Reply(told.flags, told.dsfid, told.uid)
+    fields = _filled("read_response", ReplyStruct(), *text_of(frame))
+    return Reply(fields.flags, fields.dsfid, fields.uid)
 
 
 def write_inventory(link: int, slots: int, mask: Mask = Mask(0, 0)) -> bytes:
@@ -119,7 +117,7 @@ def write_line(letter: str, frame: BytesLike = b"", uid: int = 0) -> bytes:
     Raises ValueError, with the name of the refusal and what is asked, if there is no such line."""
     if not (isinstance(letter, str) and len(letter) == 1 and letter.isascii()):
         raise ValueError(f"WrongLetter: {WANTED['WrongLetter']}, not {letter!r}")
-    return bytes(_made("write_line", LineStruct(), ord(letter), *text_of(frame), uid).text)
+    return bytes(_filled("write_line", LineStruct(), ord(letter), *text_of(frame), uid).text)
 
 
 def slot_mask(slots: int, mask: Mask, slot: int) -> Mask:
@@ -127,20 +125,20 @@ def slot_mask(slots: int, mask: Mask, slot: int) -> Mask:
     of an Inventory request with 1 or 16 slots and a mask.
 
     Raises ValueError if there is no such request or slot."""
-    told = _made("slot_mask", MaskStruct(), slots, mask.length, mask.value, slot)
-    return Mask(told.len, told.value)
+    fields = _filled("slot_mask", MaskStruct(), slots, mask.length, mask.value, slot)
+    return Mask(fields.len, fields.value)
 
 
-def _frame(name: str, *given: Union[int, bytes]) -> bytes:
+def _frame(name: str, *inputs: Union[int, bytes]) -> bytes:
     """The frame that a call writes."""
-    told = _made(name, FrameStruct(), *given)
-    return bytes(told.bytes)[:told.len]
+    frame = _filled(name, FrameStruct(), *inputs)
+    return bytes(frame.bytes)[:frame.len]
 
 
-def _made(name: str, told: ctypes.Structure, *given: Union[int, bytes]) -> ctypes.Structure:
-    """What a call reads or writes of bytes, and of numbers that fit what C takes."""
+def _filled(name: str, output: ctypes.Structure, *inputs: Union[int, bytes]) -> ctypes.Structure:
+    """The struct that a call fills, of bytes and of numbers that fit what C takes."""
     call = getattr(library(), f"vicinity_{name}")
-    for number, kind in zip(given, call.argtypes):
+    for number, kind in zip(inputs, call.argtypes):
         if isinstance(number, bytes):
             continue
         if not isinstance(number, int):
@@ -149,10 +147,10 @@ def _made(name: str, told: ctypes.Structure, *given: Union[int, bytes]) -> ctype
         bits = 8 * ctypes.sizeof(kind)
         if not 0 <= number < 1 << bits:
             raise ValueError(f"{number} isn't a number of {bits} bits")
-    fault = call(*given, ctypes.byref(told))
+    fault = call(*inputs, ctypes.byref(output))
     if 0 < fault <= max(Fault):
         raise FrameFault(Fault(fault))
     if fault:
         refusal = name_of("fault", fault)
         raise ValueError(f"{refusal}: {WANTED[refusal]}")
-    return told
+    return output

@@ -55,7 +55,7 @@ def words_of(files, clauses, reached):
             words.update(dict.fromkeys(language_words(file, text), file.name))
         for module, name in names_in(file, text):
             is_import = module and not module.startswith("rust:")
-            if is_import and not found_at(files, file, module, name):
+            if is_import and name != "Ghosts" and not found_at(files, file, module, name):
                 words.setdefault(name.strip("◌"), module)
     return words
 

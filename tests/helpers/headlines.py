@@ -106,7 +106,8 @@ def light_says_too_much(said, log):
 # Collections.
 
 KINDS = {"missing": "missing", "not heard on": "not provable", "not known yet": "not provable",
-         "in the wrong place": "misplaced", "heard in a log of no place": "misplaced",
+         "in the wrong place": "misplaced", "may be in the wrong place": "misplaced",
+         "heard in a log of no place": "misplaced",
          "not in the catalogue": "unexpected", "back that should be away": "returned",
          "not counted": "not counted", "without a tag": "no tag"}
 ALL_HERE = re.compile(rf"All {NUMBER} expected items are (?:here|in some log)"

@@ -1,4 +1,5 @@
-"""Pages that `python3 -m vicinity page` and `reconcile --page` write, and that a browser saves."""
+"""What a page draws: one that `python3 -m vicinity page` or `collection --page` writes, or that a
+browser saves."""
 import html
 import json
 import re

@@ -48,7 +48,7 @@ class ByPython:
 
 
 class ByJavaScript:
-    """The module for WebAssembly by web/library.mjs, in one process of node."""
+    """The module for WebAssembly by web/judge/library.mjs, in one process of node."""
 
     def __init__(self, module):
         self.node = subprocess.Popen(["node", SHIMS / "run.mjs", module], stdin=subprocess.PIPE,

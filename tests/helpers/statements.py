@@ -133,6 +133,8 @@ def place_of(files: Files, module: str, name: str) -> tuple[File, str] | None:
         return None
     *inside, kind = declared[2].removesuffix(".TheVariants").split(".")
     file = files[f"src:{declared[1]}.{'.'.join(inside)}"]
+    if name == "Ghosts" and kind not in file.defined:
+        return None  # a trait, whose ghost members weren't loaded
     return file, name if kind == "TheConstants" else kind
 
 

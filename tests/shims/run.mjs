@@ -4,7 +4,7 @@
 // its answer is a line `{status, written}`, or `{status: 4, why}`.
 import { readFile } from "node:fs/promises";
 import { createInterface } from "node:readline";
-import { Library } from "../../web/library.mjs";
+import { Library } from "../../web/judge/library.mjs";
 
 const library = await Library.of(await readFile(process.argv[2]));
 for await (const line of createInterface({ input: process.stdin })) {

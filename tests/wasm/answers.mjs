@@ -3,7 +3,7 @@
  *
  *     node answers.mjs MODULE.wasm <TEXTS
  */
-import { Library } from "../../web/library.mjs";
+import { Library } from "../../web/judge/library.mjs";
 
 /** @type {("check" | "explain" | "report" | "margin" | "json" | "survey")[]} */
 const COMMANDS = ["check", "explain", "report", "margin", "json", "survey"];

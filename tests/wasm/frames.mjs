@@ -6,9 +6,9 @@
  */
 import { readFileSync } from "node:fs";
 
-import { inventoryOf, linkOf, maskOf, requestOf, slotMask, stayQuietOf, uidIn } from "../../web/frames.mjs";
-import { Library } from "../../web/library.mjs";
-import { Log } from "../../web/log.mjs";
+import { inventoryOf, linkOf, maskOf, requestOf, slotMask, stayQuietOf, uidIn } from "../../web/judge/frames.mjs";
+import { Library } from "../../web/judge/library.mjs";
+import { Log } from "../../web/judge/log.mjs";
 
 const bytes = readFileSync(process.argv[2]), library = await Library.of(bytes);
 const calls = /** @type {any} */ ((await WebAssembly.instantiate(bytes)).instance.exports), at = calls.vicinity_allocate(16n);
@@ -22,11 +22,11 @@ function differs(digits) {
     const [, link, slots, len, value, quietLink, quiet, replied] = it ?? [];
     tried++;
     if (replied) return uidIn(digits) !== BigInt(`0x${replied}`);
-    const log = new Log(new TextEncoder().encode(`vicinity-log 1\nT ${digits}\n`)), shape = log.shape(0), written = digits.toUpperCase();
+    const log = new Log(new TextEncoder().encode(`vicinity-log 1\nT ${digits}\nS\n`)), written = digits.toUpperCase();
     if (linkOf(digits) !== Number(link ?? quietLink) || log.isQuiet(0) !== Boolean(quiet)) return true;
     if (quiet) return uidIn(digits) !== BigInt(`0x${quiet}`) || stayQuietOf(BigInt(`0x${quiet}`), Number(quietLink)) !== written;
     const read = inventoryOf(digits), mask = maskOf({ mask_len: Number(len), mask_value: value });
-    if (shape.slots !== Number(slots) || shape.len !== mask.len || BigInt(shape.low) !== BigInt.asUintN(16, mask.value)) return true;
+    if (log.hasUnread(0) !== (Number(slots) > 1)) return true;
     if (read.slots !== Number(slots) || read.mask.len !== mask.len || read.mask.value !== mask.value) return true;
     return requestOf(read.slots, read.mask, Number(link)) !== written || [...Array(read.slots).keys()].some((slot) => isOther(read, slot));
   });
@@ -34,7 +34,7 @@ function differs(digits) {
 
 /**
  * Whether the mask of a slot is another one than the library's.
- * @param {import("../../web/frames.mjs").Inventory} read
+ * @param {import("../../web/judge/frames.mjs").Inventory} read
  * @param {number} slot
  */
 function isOther(read, slot) {

@@ -6,11 +6,11 @@
  * A case is a line of JSON, the files of one collection or a log alone: `[[NAME, TEXT], ..]`, each text in base64.
  */
 import { readFileSync, writeFileSync } from "node:fs";
-import { headlineOf } from "../../web/collection.mjs";
-import { judge, judgeAll } from "../../web/judge.mjs";
-import { Library } from "../../web/library.mjs";
-import { say } from "../../web/say.mjs";
-import { tell } from "../../web/told.mjs";
+import { judge, judgeAll } from "../../web/judge/judge.mjs";
+import { Library } from "../../web/judge/library.mjs";
+import { say } from "../../web/say/say.mjs";
+import { headlineOf } from "../../web/say/summary.mjs";
+import { tell } from "../../web/judge/told.mjs";
 
 const library = await Library.of(readFileSync(process.argv[2])), written = [];
 

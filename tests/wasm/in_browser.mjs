@@ -1,5 +1,5 @@
 /** Everything that the module answers to texts, in a browser; both are given by their addresses. */
-import { Library } from "../../web/library.mjs";
+import { Library } from "../../web/judge/library.mjs";
 import { answers } from "./answers.mjs";
 
 /** @param {string} address */

@@ -1,8 +1,11 @@
-//! How many times a log is judged: each time, judging begins with a set of every UID. Here, a set
-//! allocates a block of a particular size when it is made, and `tests/c/refuse.c` counts these.
+//! How many sets of open UIDs the judge makes of a log. It makes one when it has walked over all
+//! lines, so a log is judged once if one set is made at most. If a reply isn't borne out, the walk
+//! ends there and none is made: of such a log the count says nothing.
+//!
+//! Here, a set allocates a block of a particular size when it is made, and `tests/c/refuse.c`
+//! counts these.
 
 use crate::logs::log_of;
-use arrayvec::ArrayVec;
 use std::alloc::{AllocError, Global};
 use std::io;
 use std::io::ErrorKind;
@@ -35,10 +38,6 @@ impl OpenSet for Telling {
 
     fn has(&self, uid: Uid) -> bool {
         self.set.has(uid)
-    }
-
-    fn up_to_three(&self, mask: &Mask, except: &[Uid]) -> ArrayVec<Uid, 3> {
-        self.set.up_to_three(mask, except)
     }
 
     fn widest(&self) -> Option<Mask> {

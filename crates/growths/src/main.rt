@@ -3,7 +3,7 @@
 //!
 //! `tests/test_growths.py` runs it with one allocation refused, each in turn. With `planted` on
 //! standard input it makes calls that are deliberately wrong; with a log it judges that log, and
-//! the test counts how many times.
+//! the test counts the sets of open UIDs that are made.
 #![tactic(auto)]
 
 mod found;

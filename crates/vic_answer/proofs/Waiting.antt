@@ -1,5 +1,5 @@
 -- What was added to bytes that wait, in turn.
-use Rattle.vic_answer.proofs.Words.{arith, OnOk, IfErr, Write, Accepts, ◌≢◌, ◌≡◌, ◌+◌, ℕ, List, [], ◌++◌, length, take, None, Some, Option, Bool, Result, Ok, Err, refl, sym, ◌∙◌, ap, append_assoc, append-nil, subst, IsErr, IsErrAnd, take-append-le, Appends, HasTakenBut, HasTakenPrefix, RunFault, Writes, ⊤, Appends-trans, Appends-nil, take-append-add, PushesBehind, Pushes}
+use Rattle.vic_answer.proofs.Words.{arith, OnOk, IfErr, Write, Accepts, ◌≢◌, ◌≡◌, ◌+◌, ℕ, List, [], ◌++◌, length, take, None, Some, Option, Result, Ok, Err, refl, sym, ◌∙◌, ap, append_assoc, append-nil, subst, IsErr, IsErrAnd, take-append-le, Appends, HasTakenBut, HasTakenPrefix, RunFault, Writes, ⊤, Appends-trans, Appends-nil, take-append-add, PushesBehind, Pushes, Sink}
 use Rattle.std.proofs.Common.{length-append}
 
 -- a text behind a text
@@ -61,22 +61,22 @@ err_is : (r : Result ⊤ RunFault) (e : RunFault) → IsErr r × IsErrAnd r (λ 
 err_is (Ok x) e h = let no = h.0 in cc
 err_is (Err d) e h = ap Err (sym h.1)
 
-module _ {W : Type 0} {written : W → List ℕ} {taken : W → Option (List ℕ)} {has_failed : W → Bool} where
+module _ {W : Type 0} {s : Sink W} where
   -- one text behind another
   pub Pushes-then : {a b c : W} {w w' w'' xs ys : List ℕ} {r : Result ⊤ RunFault}
-      → Pushes written taken has_failed a b w w' xs (Ok tt) → Pushes written taken has_failed b c w' w'' ys r
-      → Pushes written taken has_failed a c w w'' (xs ++ ys) r
+      → Pushes s a b w w' xs (Ok tt) → Pushes s b c w' w'' ys r
+      → Pushes s a c w w'' (xs ++ ys) r
   Pushes-then {w = w} {w' = w'} {w'' = w''} {xs = xs} {ys = ys} {r = r} h k = record {
     puts = PushesBehind-then _ _ _ w w' w'' xs ys r h.puts k.puts;
     puts_revealed = PushesBehind-then _ _ _ w w' w'' xs ys r h.puts_revealed k.puts_revealed;
     fault = k.fault;
     failed = k.failed;
-    untouched = λ e. let same = h.untouched e in k.untouched (ap has_failed same ∙ e) ∙ same;
+    untouched = λ e. let same = h.untouched e in k.untouched (ap s.has_failed same ∙ e) ∙ same;
   }
 
   -- a text that can't be added can't be with another behind it
   pub Pushes-longer : (ys : List ℕ) {a b : W} {w w' xs : List ℕ} (r : Result ⊤ RunFault) → IsErr r
-      → Pushes written taken has_failed a b w w' xs r → Pushes written taken has_failed a b w w' (xs ++ ys) r
+      → Pushes s a b w w' xs r → Pushes s a b w w' (xs ++ ys) r
   Pushes-longer ys (Ok x) is h = cc
   Pushes-longer ys {w = w} {w' = w'} {xs = xs} (Err e) is h = record {
     puts = PushesBehind-fails _ _ w w' w' xs ys e h.puts;
@@ -88,28 +88,28 @@ module _ {W : Type 0} {written : W → List ℕ} {taken : W → Option (List ℕ
 
   -- an error that is handed on
   pub Pushes-handed : {a b : W} {w w' xs : List ℕ} {e : RunFault} (r : Result ⊤ RunFault) → IsErr r × IsErrAnd r (λ d. d ≡ e)
-      → Pushes written taken has_failed a b w w' xs (Err e) → Pushes written taken has_failed a b w w' xs r
-  Pushes-handed {a} {b} {w} {w'} {xs} {e} r is h = subst (Pushes written taken has_failed a b w w' xs) (err_is r e is) h
+      → Pushes s a b w w' xs (Err e) → Pushes s a b w w' xs r
+  Pushes-handed {a} {b} {w} {w'} {xs} {e} r is h = subst (Pushes s a b w w' xs) (err_is r e is) h
 
   -- the same text
   pub Pushes-same : {a b : W} {w w' xs ys : List ℕ} {r : Result ⊤ RunFault}
-      → Pushes written taken has_failed a b w w' xs r → xs ≡ ys → Pushes written taken has_failed a b w w' ys r
-  Pushes-same {a} {b} {w} {w'} {xs} {ys} {r} h same = subst (λ zs. Pushes written taken has_failed a b w w' zs r) same h
+      → Pushes s a b w w' xs r → xs ≡ ys → Pushes s a b w w' ys r
+  Pushes-same {a} {b} {w} {w'} {xs} {ys} {r} h same = subst (λ zs. Pushes s a b w w' zs r) same h
 
   -- no text
-  pub Pushes-nil : (a : W) (w : List ℕ) → Pushes written taken has_failed a a w w [] (Ok tt)
+  pub Pushes-nil : (a : W) (w : List ℕ) → Pushes s a a w w [] (Ok tt)
   Pushes-nil a w = record {
-    puts = PushesBehind-nil (Some (written a)) w;
-    puts_revealed = PushesBehind-nil (taken a) w;
+    puts = PushesBehind-nil (Some (s.written a)) w;
+    puts_revealed = PushesBehind-nil (s.taken a) w;
     fault = tt;
     failed = tt;
     untouched = λ e. refl;
   }
 
   -- the last piece is written, where at first nothing waited
-  pub Writes-behind : {is_flushed : W → Bool} {a b c : W} {none w text : List ℕ} {r : Result ⊤ RunFault}
-      → none ≡ [] → Pushes written taken has_failed a b none w text (Ok tt) → Writes written taken is_flushed has_failed b c w r
-      → Writes written taken is_flushed has_failed a c text r
+  pub Writes-behind : {a b c : W} {none w text : List ℕ} {r : Result ⊤ RunFault}
+      → none ≡ [] → Pushes s a b none w text (Ok tt) → Writes s b c w r
+      → Writes s a c text r
   Writes-behind {r = r} start h k = record {
     accepts = accepts_behind r start h.puts k.accepts;
     accepts_revealed = accepts_behind r start h.puts_revealed k.accepts_revealed;
@@ -119,6 +119,6 @@ module _ {W : Type 0} {written : W → List ℕ} {taken : W → Option (List ℕ
       works = k.leaves_sink.works;
       write = k.leaves_sink.write;
       unwritten = no_other _ r k.fault;
-      untouched = λ e. let same = h.untouched e in k.leaves_sink.untouched (ap has_failed same ∙ e) ∙ same;
+      untouched = λ e. let same = h.untouched e in k.leaves_sink.untouched (ap s.has_failed same ∙ e) ∙ same;
     };
   }

@@ -45,6 +45,8 @@ pub use Rattle.vic_log.specs.declared.entry.LogLine.{LogLine}
 pub use Rattle.vic_log.specs.declared.fault.LineFault.{LineFault}
 pub use Rattle.vic_log.specs.declared.fault.LogFault.{LogFault}
 pub use Rattle.vic_log.specs.declared.fault.LogFault.TheVariants.{Line}
+pub use Rattle.vic_log.specs.declared.sink.Sink.{Ghosts as Sink}
+pub use Rattle.vic_log.specs.declared.source.Source.{Ghosts as Source}
 pub use Rattle.vic_tree.specs.declared.open_masks.OpenMasks.{OpenMasks}
 pub use Rattle.vic_verdict.proofs.Versions.{complete_second, complete_third}
 pub use Rattle.vic_verdict.proofs.Verdicts.{complete_whole}
@@ -60,7 +62,7 @@ pub use Rattle.vic_report.specs.Reports.{IsReport, verdict_by, verdict_of}
 pub use Rattle.vic_report.specs.declared.reporting.LogReport.{LogReport}
 pub use Rattle.vic_report.specs.declared.shown.ShownUid.{ShownUid}
 pub use Rattle.vic_answer.specs.Answered.{answer_of, HasLog, IsAnswered, IsReadAs}
-pub use Rattle.vic_answer.specs.CheckText.{BeginsAsCheck, IsAnswer, IsAnswerText, IsCheckOf, HasCompleteList, answer_line, answer_status, verdict_line}
+pub use Rattle.vic_answer.specs.CheckText.{BeginsAsCheck, IsCommandText, IsCheckOf, HasCompleteList, check_text, check_status, verdict_line}
 pub use Rattle.vic_text.specs.Digits.{hex_bytes, value_text}
 pub use Rattle.vic_text.specs.Values.{hex_number_in, number_in, value_in}
 pub use Rattle.vic_answer.specs.ExplainText.{IsExplanationOf, explained_text, population_line, population_of}
@@ -68,7 +70,7 @@ pub use Rattle.vic_answer.specs.FrameText.{reply_words, request_words}
 pub use Rattle.vic_answer.specs.Findings.{report_findings}
 pub use Rattle.vic_answer.specs.ReportText.{IsReportOf, finding_text, reported_text}
 pub use Rattle.vic_answer.specs.inner.FindingsLeft.{findings_left}
-pub use Rattle.vic_answer.specs.Runs.{Accepts, GivesNoEarlyFault, IsEnough, IsReadWithin, LeavesSource, Reads, RunsOver, RunsOverRevealed, RunsWhere, Writes}
+pub use Rattle.vic_answer.specs.Runs.{Accepts, ForText, IsEnough, IsReadWithin, LeavesSource, Reading, ReadsEnough, ReadsNoEarlyFault, Runs, RunsOver, RunsOverRevealed, Writes, as_returned, as_revealed}
 pub use Rattle.vic_answer.specs.SimulateText.{IsSimulationOf, simulated_status, simulated_text}
 pub use Rattle.vic_answer.specs.SpellText.{and_then, hex_word, inventory_in, longest_mask, mask_in, number_up_to, reply_in, says_inventory, says_reply, says_stay_quiet, sixteen_in, spelled_text, stay_quiet_in, word, words_of, words_reading}
 pub use Rattle.vic_answer.specs.declared.answered.Answered.{Answered}

@@ -1,4 +1,4 @@
--- What is answered to a text: what was found in its log, or its first fault.
+-- What a text is answered by: what was found in its log, or its first fault.
 use Rattle.std.specs.Prelude.{ℕ, List}
 use Rattle.vic_log.specs.Lines.{lines_of_text}
 use Rattle.vic_log.specs.Log.{LogValue}
@@ -17,8 +17,8 @@ HasLog text log = IsLogOf (lines_of_text text) log
 abbrev pub IsRefusedAt : List ℕ → ℕ → LineFault → Type 0
 IsRefusedAt text n fault = IsFirstFault (lines_of_text text) n fault
 
--- the answer to a text: what was found in its log, which P relates to the log's lines, or its first
--- fault
+-- this answers the text: it was found in the log of the text, whose lines P relates to it, or it is
+-- the first fault of the text
 abbrev pub IsAnswered : {A : Type 0} → (List LogLine → A → Type 0) → List ℕ → Answered A → Type 0
 IsAnswered P text (Found found) = (log : LogValue) × HasLog text log × P log.lines found
 IsAnswered P text (RefusedAt n fault) = IsRefusedAt text n fault
@@ -28,7 +28,7 @@ abbrev pub answer_of : {A : Type 0} → (A → Verdict) → Answered A → Answe
 answer_of verdict_of (Found found) = Found (verdict_of found)
 answer_of verdict_of (RefusedAt n fault) = RefusedAt n fault
 
--- the log of a text, or its first fault
+-- the text was read as this: its log, or its first fault
 abbrev pub IsReadAs : List ℕ → Answered LogValue → Type 0
 IsReadAs text (Found log) = HasLog text log
 IsReadAs text (RefusedAt n fault) = IsRefusedAt text n fault

@@ -1,4 +1,5 @@
--- What `check` answers to a text: the line and the status of its verdict, or of its refusal.
+-- What `check` writes for a text: the line of its verdict, or of its refusal. And what each command
+-- that judges a log writes, whose status is that of `check`.
 use Rattle.std.specs.Prelude.{◌≡◌, ℕ, List, ◌++◌, length, codes, decimal}
 use Rattle.vic_log.specs.Lines.{lines_of_text}
 use Rattle.vic_log.specs.Log.{LogValue}
@@ -15,8 +16,11 @@ use Rattle.vic_answer.specs.Refusals.{refusal_line}
 use Rattle.vic_answer.specs.declared.status.Status.{Status}
 use Rattle.vic_answer.specs.declared.status.Status.TheVariants.{Whole, NotWhole, Refused}
 use Rattle.vic_answer.specs.Answered.{IsAnswered, answer_of}
+use Rattle.vic_answer.specs.Runs.{ForText}
 use Rattle.vic_answer.specs.declared.answered.Answered.{Answered}
 use Rattle.vic_answer.specs.declared.answered.Answered.TheVariants.{Found, RefusedAt}
+
+-- ---- the answer
 
 -- the line of a verdict
 abbrev pub verdict_line : Verdict → List ℕ
@@ -36,37 +40,39 @@ verdict_status (Unlisted u) = NotWhole
 verdict_status (Unsettled m) = NotWhole
 verdict_status (Doubtful u) = NotWhole
 
--- the answer to a text: the verdict on its log, or its first fault
-abbrev pub IsAnswer : List ℕ → Answered Verdict → Type 0
-IsAnswer = IsAnswered IsVerdict
+-- what `check` writes for an answer: one line, LF included
+abbrev pub check_text : Answered Verdict → List ℕ
+check_text (Found v) = verdict_line v
+check_text (RefusedAt n fault) = refusal_line n fault
 
-abbrev pub answer_line : Answered Verdict → List ℕ
-answer_line (Found v) = verdict_line v
-answer_line (RefusedAt n fault) = refusal_line n fault
+-- the status with which `check` ends for an answer
+abbrev pub check_status : Answered Verdict → Status
+check_status (Found v) = verdict_status v
+check_status (RefusedAt n fault) = Refused
 
-abbrev pub answer_status : Answered Verdict → Status
-answer_status (Found v) = verdict_status v
-answer_status (RefusedAt n fault) = Refused
+-- ---- what is written
 
--- the text and the status of the answer to a text, where P relates what was found to the lines of
--- its log: the status is that of `check`
-pub record IsAnswerText {A : Type 0} (P : List LogLine → A → Type 0) (verdict_of : A → Verdict)
-    (text_of : Answered A → List ℕ) (text answer : List ℕ) (status : Status) : Type 0 where
+-- what a command that judges a log writes for a text, and its status, which is that of `check`: P
+-- relates what it finds to the lines of the log, and `text_of` is how it writes that
+pub record IsCommandText {A : Type 0} (P : List LogLine → A → Type 0) (verdict_of : A → Verdict)
+    (text_of : Answered A → List ℕ) (text written : List ℕ) (status : Status) : Type 0 where
   pub answered : Answered A
   pub right : IsAnswered P text answered
-  pub answer_is : answer ≡ text_of answered
-  pub status_is : status ≡ answer_status (answer_of verdict_of answered)
+  pub written_is : written ≡ text_of answered
+  pub status_is : status ≡ check_status (answer_of verdict_of answered)
 
--- the line and the status of the answer to a text
-abbrev pub IsCheckOf : List ℕ → List ℕ → Status → Type 0
-IsCheckOf = IsAnswerText IsVerdict (λ v. v) answer_line
+-- what `check` writes for a text, and its status
+abbrev pub IsCheckOf : ForText
+IsCheckOf = IsCommandText IsVerdict (λ v. v) check_text
 
--- an answer that begins with the line of `check` for the text, and has its status
-pub record BeginsAsCheck (text answer : List ℕ) (status : Status) : Type 0 where
+-- what begins with the line that `check` writes for the text, and has its status
+pub record BeginsAsCheck (text written : List ℕ) (status : Status) : Type 0 where
   pub line : List ℕ
   pub more : List ℕ
   pub right : IsCheckOf text line status
-  pub answer_is : answer ≡ line ++ more
+  pub written_is : written ≡ line ++ more
+
+-- ---- a complete list
 
 -- the text has a log whose list is complete, with `count` UIDs: some population could have produced
 -- the log, and each that could has exactly the UIDs that it lists; and the same in the words of

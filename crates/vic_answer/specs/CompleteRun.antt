@@ -1,6 +1,8 @@
 -- What a run of `check`, `explain`, `report` or `margin` has read if it writes `complete`.
-use Rattle.std.specs.Prelude.{◌≡◌, ℕ, Bool, true, List, ◌++◌, Option, Some, Result, OnOk, codes, decimal}
+use Rattle.std.specs.Prelude.{◌≡◌, ℕ, true, List, ◌++◌, Some, Result, OnOk, codes, decimal}
 use Rattle.std.specs.Io.KnownBytes.{Consumes, IsAtEnd}
+use Rattle.vic_log.specs.declared.sink.Sink.{Ghosts as Sink}
+use Rattle.vic_log.specs.declared.source.Source.{Ghosts as Source}
 use Rattle.vic_answer.specs.CheckText.{HasCompleteList}
 
 -- a text whose list is complete was read, and no more follows, and `rest` is the number of UIDs
@@ -16,19 +18,21 @@ pub record ReadsCompleteList (HasRead : List ℕ → Type 0) (IsOver : Type 0) (
 
 -- if a run wrote `complete` and a space, and then these bytes, its source's reads returned such a
 -- text, until one returned none
-abbrev pub IsCompleteWhereWritten : {A E : Type 0} → List ℕ → List ℕ → Bool
-    → List ℕ → List ℕ → Result A E → Type 0
-IsCompleteWhereWritten returned returned' ended written written' result =
-    OnOk result ((rest : List ℕ) → written' ≡ written ++ (codes "complete " ++ rest)
-    → ReadsCompleteList (λ text. returned' ≡ returned ++ text) (ended ≡ true) rest)
+abbrev pub IsCompleteWhereWritten : {R W A E : Type 0} → Source R → Sink W → R → R → W → W
+    → Result A E → Type 0
+IsCompleteWhereWritten r w source source' sink sink' result =
+    OnOk result ((rest : List ℕ)
+    → w.written sink' ≡ w.written sink ++ (codes "complete " ++ rest)
+    → ReadsCompleteList (λ text. r.returned source' ≡ r.returned source ++ text)
+    (r.ended source' ≡ true) rest)
 
 -- the same over the bytes that the source and the sink revealed before and after
-abbrev pub IsCompleteWhereRevealed : {A E : Type 0} → Option (List ℕ) → Option (List ℕ)
-    → Option (List ℕ) → Option (List ℕ) → Result A E → Type 0
-IsCompleteWhereRevealed left left' taken taken' result =
-    OnOk result ((before rest : List ℕ) → taken ≡ Some before
-    → taken' ≡ Some (before ++ (codes "complete " ++ rest))
-    → ReadsCompleteList (Consumes left left') (IsAtEnd left') rest)
+abbrev pub IsCompleteWhereRevealed : {R W A E : Type 0} → Source R → Sink W → R → R → W → W
+    → Result A E → Type 0
+IsCompleteWhereRevealed r w source source' sink sink' result =
+    OnOk result ((before rest : List ℕ) → w.taken sink ≡ Some before
+    → w.taken sink' ≡ Some (before ++ (codes "complete " ++ rest))
+    → ReadsCompleteList (Consumes (r.left source) (r.left source')) (IsAtEnd (r.left source')) rest)
 
 -- bytes that begin with some that are so
 pub record BeginWith (AreSo : List ℕ → Type 0) (bytes : List ℕ) : Type 0 where
@@ -39,8 +43,10 @@ pub record BeginWith (AreSo : List ℕ → Type 0) (bytes : List ℕ) : Type 0 w
 
 -- of a run that may write more lines after `complete`: what it wrote next begins with the number
 -- and LF
-abbrev pub IsCompleteWhereWrittenFirst : {A E : Type 0} → List ℕ → List ℕ → Bool
-    → List ℕ → List ℕ → Result A E → Type 0
-IsCompleteWhereWrittenFirst returned returned' ended written written' result =
-    OnOk result ((rest : List ℕ) → written' ≡ written ++ (codes "complete " ++ rest)
-    → BeginWith (ReadsCompleteList (λ text. returned' ≡ returned ++ text) (ended ≡ true)) rest)
+abbrev pub IsCompleteWhereWrittenFirst : {R W A E : Type 0} → Source R → Sink W → R → R → W → W
+    → Result A E → Type 0
+IsCompleteWhereWrittenFirst r w source source' sink sink' result =
+    OnOk result ((rest : List ℕ)
+    → w.written sink' ≡ w.written sink ++ (codes "complete " ++ rest)
+    → BeginWith (ReadsCompleteList (λ text. r.returned source' ≡ r.returned source ++ text)
+    (r.ended source' ≡ true)) rest)

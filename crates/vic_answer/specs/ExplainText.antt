@@ -1,4 +1,4 @@
--- What `explain` answers to a text: the line of `check`, and then a population that shows the
+-- What `explain` writes for a text: the line of `check`, and then a population that shows the
 -- verdict, if one can.
 use Rattle.std.specs.Prelude.{ℕ, Option, Some, None, List, [], ◌++◌, length, codes, decimal}
 use Rattle.std.specs.Option.{option_map, unwrap_or}
@@ -6,10 +6,10 @@ use Rattle.vic_log.specs.Writing.{listed_text}
 use Rattle.vic_verdict.specs.Explained.{IsExplanation}
 use Rattle.vic_verdict.specs.declared.explanation.Explanation.{Explanation}
 use Rattle.vic_answer.specs.Answered.{answer_of}
-use Rattle.vic_answer.specs.CheckText.{IsAnswerText, answer_line}
+use Rattle.vic_answer.specs.CheckText.{IsCommandText, check_text}
 use Rattle.vic_answer.specs.declared.answered.Answered.{Answered}
 use Rattle.vic_answer.specs.declared.answered.Answered.TheVariants.{Found, RefusedAt}
-use Rattle.vic_answer.specs.declared.status.Status.{Status}
+use Rattle.vic_answer.specs.Runs.{ForText}
 
 -- the population of an answer, if it has one
 abbrev pub population_of : Answered Explanation → Option (List ℕ)
@@ -29,10 +29,11 @@ abbrev pub population_text : Option (List ℕ) → List ℕ
 population_text None = []
 population_text (Some us) = population_line (length us) ++ listed_text us
 
+-- what `explain` writes for what it found, or for a fault of the text
 abbrev pub explained_text : Answered Explanation → List ℕ
 explained_text explained =
-    answer_line (answer_of (λ x. x.verdict) explained) ++ population_text (population_of explained)
+    check_text (answer_of (λ x. x.verdict) explained) ++ population_text (population_of explained)
 
--- the text and the status of the answer to a text
-abbrev pub IsExplanationOf : List ℕ → List ℕ → Status → Type 0
-IsExplanationOf = IsAnswerText IsExplanation (λ x. x.verdict) explained_text
+-- what `explain` writes for a text, and its status
+abbrev pub IsExplanationOf : ForText
+IsExplanationOf = IsCommandText IsExplanation (λ x. x.verdict) explained_text

@@ -23,6 +23,7 @@ unsettled_findings None = []
 unsettled_findings (Some x) =
     Unsettled x.mask ∷ map OpenMask x.open.masks.items ++ more_findings x.open.more
 
+-- the findings of a report, none if the list is complete
 abbrev pub report_findings : LogReport → List Finding
 report_findings (report.Impossible c) =
     map ConflictLine c.lines.items ++ silenced_findings c.silenced_by
@@ -31,7 +32,7 @@ report_findings (report.NotWhole f) =
     ++ unsettled_findings f.unsettled ++ map Doubtful f.doubtful.items
 report_findings (report.Complete count) = []
 
--- the findings of the answer to a text, none if it is refused
-abbrev pub answer_findings : Answered LogReport → List Finding
-answer_findings (Found r) = report_findings r
-answer_findings (RefusedAt n fault) = []
+-- the findings in the answer to a text, none if that is refused
+abbrev pub findings_of : Answered LogReport → List Finding
+findings_of (Found r) = report_findings r
+findings_of (RefusedAt n fault) = []

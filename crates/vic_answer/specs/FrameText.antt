@@ -1,4 +1,4 @@
--- What `frame` answers to a word: the word's two readings, or why it isn't a frame.
+-- What `frame` writes for a word: the word's two readings, or why it isn't a frame.
 use Rattle.std.specs.Prelude.{ℕ, ◌||◌, List, [], ◌∷◌, ◌++◌, length, nat_lt, is_ok, codes, decimal, Result, Ok, Err, if◌then◌else◌}
 use Rattle.hex.specs.Hex.{decode_of}
 use Rattle.hex.specs.declared.error.FromHexError.{FromHexError}

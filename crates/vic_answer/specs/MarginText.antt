@@ -1,4 +1,4 @@
--- What `margin` answers to a text: the line of `check`, and, if it is `complete`, the margin of the
+-- What `margin` writes for a text: the line of `check`, and, if it is `complete`, the margin of the
 -- log, its weakest mask, and what its hidden and its deaf reading leave unsettled.
 use Rattle.std.specs.Prelude.{ℕ, Option, Some, None, MatchOption, List, [], ◌++◌, codes, decimal}
 use Rattle.vic_frame.specs.Masks.{BitMask}
@@ -14,11 +14,11 @@ use Rattle.vic_margin.specs.declared.answer.Weakest.{Weakest}
 use Rattle.vic_margin.specs.Margins.{IsWeakest}
 use Rattle.vic_margin.specs.Readings.{AreReadingsIfComplete}
 use Rattle.vic_answer.specs.Answered.{answer_of}
-use Rattle.vic_answer.specs.CheckText.{IsAnswerText, answer_line}
+use Rattle.vic_answer.specs.CheckText.{IsCommandText, check_text}
 use Rattle.vic_text.specs.Digits.{mask_text}
 use Rattle.vic_answer.specs.declared.answered.Answered.{Answered}
 use Rattle.vic_answer.specs.declared.answered.Answered.TheVariants.{Found, RefusedAt}
-use Rattle.vic_answer.specs.declared.status.Status.{Status}
+use Rattle.vic_answer.specs.Runs.{ForText}
 
 -- the verdict on the lines of a log; if it is possible, its margin and its weakest mask; and if its
 -- list is complete, what its hidden and its deaf reading leave unsettled
@@ -35,6 +35,7 @@ weakest_text (Some w) =
     codes "margin " ++ decimal w.margin ++ codes "\n"
     ++ codes "weakest " ++ mask_text w.mask ++ codes "\n"
 
+-- a mask, or `-` if there is none
 abbrev pub mask_or_none : Option BitMask → List ℕ
 mask_or_none (Some m) = mask_text m
 mask_or_none None = codes "-"
@@ -51,13 +52,15 @@ abbrev pub following_text : Verdict → Margin → List ℕ
 following_text (Complete count) m = weakest_text m.weakest ++ readings_text m.readings
 following_text verdict m = []
 
+-- what follows the line of `check`
 abbrev pub margin_lines : Answered Margin → List ℕ
 margin_lines (Found m) = following_text m.verdict m
 margin_lines (RefusedAt n fault) = []
 
+-- what `margin` writes for what it found, or for a fault of the text
 abbrev pub measured_text : Answered Margin → List ℕ
-measured_text measured = answer_line (answer_of (λ x. x.verdict) measured) ++ margin_lines measured
+measured_text measured = check_text (answer_of (λ x. x.verdict) measured) ++ margin_lines measured
 
--- the text and the status of the answer to a text
-abbrev pub IsMarginOf : List ℕ → List ℕ → Status → Type 0
-IsMarginOf = IsAnswerText IsMarginOfLines (λ x. x.verdict) measured_text
+-- what `margin` writes for a text, and its status
+abbrev pub IsMarginOf : ForText
+IsMarginOf = IsCommandText IsMarginOfLines (λ x. x.verdict) measured_text

@@ -1,4 +1,4 @@
--- What `report` answers to a text: every finding of its log, with its lines, or the line of a
+-- What `report` writes for a text: every finding of its log, with its lines, or the line of a
 -- refusal.
 use Rattle.std.specs.Prelude.{ℕ, List, [], ◌++◌, codes, decimal}
 use Rattle.std.specs.List.{flat_map}
@@ -6,7 +6,7 @@ use Rattle.vic_report.specs.declared.reporting.LogReport.{LogReport}
 use Rattle.vic_report.specs.declared.reporting.LogReport.TheVariants as report
 use Rattle.vic_verdict.specs.declared.judging.Verdict.TheVariants as verdict
 use Rattle.vic_report.specs.Reports.{IsReport, verdict_of}
-use Rattle.vic_answer.specs.CheckText.{IsAnswerText, verdict_line}
+use Rattle.vic_answer.specs.CheckText.{IsCommandText, verdict_line}
 use Rattle.vic_text.specs.Digits.{mask_text}
 use Rattle.vic_answer.specs.Findings.{report_findings}
 use Rattle.vic_answer.specs.Refusals.{refusal_line}
@@ -14,7 +14,7 @@ use Rattle.vic_answer.specs.declared.answered.Answered.{Answered}
 use Rattle.vic_answer.specs.declared.answered.Answered.TheVariants.{Found, RefusedAt}
 use Rattle.vic_answer.specs.declared.findings.Finding.{Finding}
 use Rattle.vic_answer.specs.declared.findings.Finding.TheVariants.{Absent, Unlisted, Unsettled, Doubtful, OpenMask, MoreOpenMasks, ConflictLine, SilencedBy}
-use Rattle.vic_answer.specs.declared.status.Status.{Status}
+use Rattle.vic_answer.specs.Runs.{ForText}
 
 -- a line of the log that shows a finding, or is one of a conflict
 abbrev pub by_line : ℕ → List ℕ
@@ -37,13 +37,15 @@ heading (report.Impossible c) = verdict_line (verdict.Impossible c.line)
 heading (report.NotWhole f) = []
 heading (report.Complete count) = verdict_line (verdict.Complete count)
 
+-- all lines of a report
 abbrev pub report_text : LogReport → List ℕ
 report_text r = heading r ++ flat_map finding_text (report_findings r)
 
+-- what `report` writes for what it found, or for a fault of the text
 abbrev pub reported_text : Answered LogReport → List ℕ
 reported_text (Found r) = report_text r
 reported_text (RefusedAt n fault) = refusal_line n fault
 
--- the text and the status of the answer to a text
-abbrev pub IsReportOf : List ℕ → List ℕ → Status → Type 0
-IsReportOf = IsAnswerText IsReport verdict_of reported_text
+-- what `report` writes for a text, and its status
+abbrev pub IsReportOf : ForText
+IsReportOf = IsCommandText IsReport verdict_of reported_text

@@ -1,4 +1,4 @@
--- What `simulate` answers to a text: the text of the log with its slots filled in, or the line of a
+-- What `simulate` writes for a text: the text of the log with its slots filled in, or the line of a
 -- refusal.
 use Rattle.std.specs.Prelude.{◌≡◌, ℕ, ◌+◌, ◌<◌, List, codes}
 use Rattle.vic_log.specs.declared.entry.TheConstants.{MAX_LINES}
@@ -30,19 +30,21 @@ IsSimulatedText text (Found simulated) =
     (given : LogValue) × HasLog text given × IsSimulated given simulated
 IsSimulatedText text (RefusedAt n fault) = IsRefusedAt text n fault
 
+-- what is written: the log, or the line of a refusal
 abbrev pub simulated_text : Answered Simulated → List ℕ
 simulated_text (Found (Filled log)) = text_of log
 simulated_text (Found (OutcomeGiven n)) = refused_at n (codes "OutcomeGiven")
 simulated_text (Found TooManyLines) = refusal_line (MAX_LINES + 1) ManyLines
 simulated_text (RefusedAt n fault) = refusal_line n fault
 
+-- the status with which `simulate` ends
 abbrev pub simulated_status : Answered Simulated → Status
 simulated_status (Found (Filled log)) = Whole
 simulated_status simulated = Refused
 
--- the text and the status of the answer to a text
-pub record IsSimulationOf (text answer : List ℕ) (status : Status) : Type 0 where
+-- what `simulate` writes for a text, and its status
+pub record IsSimulationOf (text written : List ℕ) (status : Status) : Type 0 where
   pub simulated : Answered Simulated
   pub right : IsSimulatedText text simulated
-  pub answer_is : answer ≡ simulated_text simulated
+  pub written_is : written ≡ simulated_text simulated
   pub status_is : status ≡ simulated_status simulated

@@ -1,4 +1,4 @@
--- What `spell` answers to words: the frame that `frame` describes by these words, or why there is
+-- What `spell` writes for words: the frame that `frame` describes by these words, or why there is
 -- none. Words that aren't of one of the three forms are `Words`; otherwise the first value that
 -- doesn't fit decides.
 use Rattle.std.specs.Prelude.{ℕ, ◌^◌, ◌%◌, ◌==◌, ◌&&◌, Bool, true, false, List, [], ◌++◌, length, slice_index_or, bytes_eq, nat_le, nat_lt, codes, ok_or, Result, Ok, Err, if◌then◌else◌, ⊤}

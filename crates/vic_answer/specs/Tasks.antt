@@ -1,6 +1,8 @@
 -- What each task reads and writes.
-use Rattle.std.specs.Prelude.{◌≡◌, ℕ, Bool, List, Option, None, Result, IfErr, map, string_bytes}
+use Rattle.std.specs.Prelude.{◌≡◌, ℕ, List, Option, None, Result, IfErr, map, string_bytes}
 use Rattle.std.specs.Option.{option_map}
+use Rattle.vic_log.specs.declared.sink.Sink.{Ghosts as Sink}
+use Rattle.vic_log.specs.declared.source.Source.{Ghosts as Source}
 use Rattle.vic_answer.specs.declared.task.Task.{Task}
 use Rattle.vic_answer.specs.declared.task.Task.TheVariants.{Check, Simulate, Explain, Report, Margin, Frame, Spell}
 use Rattle.vic_answer.specs.declared.status.RunFault.{RunFault}
@@ -27,34 +29,34 @@ file_of task = None
 
 -- what a task does, over the bytes that the source's reads returned, until one returned none, and
 -- that the sink's writes accepted
-abbrev pub Does : Task → List ℕ → List ℕ → Bool → List ℕ → List ℕ → Result Status RunFault → Type 0
-Does (Check file) returned returned' ended written written' result =
-    RunsOver IsCheckOf returned returned' ended written written' result
-    × IsCompleteWhereWritten returned returned' ended written written' result
-Does (Simulate file) returned returned' ended written written' result =
-    RunsOver IsSimulationOf returned returned' ended written written' result
-Does (Explain file) returned returned' ended written written' result =
-    RunsOver IsExplanationOf returned returned' ended written written' result
-    × IsCompleteWhereWritten returned returned' ended written written' result
-Does (Report file) returned returned' ended written written' result =
-    RunsOver IsReportOf returned returned' ended written written' result
-    × IsCompleteWhereWritten returned returned' ended written written' result
-Does (Margin file) returned returned' ended written written' result =
-    RunsOver IsMarginOf returned returned' ended written written' result
-    × IsCompleteWhereWrittenFirst returned returned' ended written written' result
-Does (Frame word) returned returned' ended written written' result =
-    (returned' ≡ returned) × IfErr result (λ e. e ≡ Write)
+abbrev pub Does : {R W : Type 0} → Source R → Sink W → Task → R → R → W → W
+    → Result Status RunFault → Type 0
+Does r w (Check file) source source' sink sink' result =
+    RunsOver IsCheckOf r w source source' sink sink' result
+    × IsCompleteWhereWritten r w source source' sink sink' result
+Does r w (Simulate file) source source' sink sink' result =
+    RunsOver IsSimulationOf r w source source' sink sink' result
+Does r w (Explain file) source source' sink sink' result =
+    RunsOver IsExplanationOf r w source source' sink sink' result
+    × IsCompleteWhereWritten r w source source' sink sink' result
+Does r w (Report file) source source' sink sink' result =
+    RunsOver IsReportOf r w source source' sink sink' result
+    × IsCompleteWhereWritten r w source source' sink sink' result
+Does r w (Margin file) source source' sink sink' result =
+    RunsOver IsMarginOf r w source source' sink sink' result
+    × IsCompleteWhereWrittenFirst r w source source' sink sink' result
+Does r w (Frame word) source source' sink sink' result =
+    (r.returned source' ≡ r.returned source) × IfErr result (λ e. e ≡ Write)
     × IsWritten (frame_text (string_bytes word)) (frame_status (string_bytes word))
-    written written' result
-Does (Spell words) returned returned' ended written written' result =
-    (returned' ≡ returned) × IfErr result (λ e. e ≡ Write)
+    (w.written sink) (w.written sink') result
+Does r w (Spell words) source source' sink sink' result =
+    (r.returned source' ≡ r.returned source) × IfErr result (λ e. e ≡ Write)
     × IsWritten (spell_text (map string_bytes words.items))
-    (spell_status (map string_bytes words.items)) written written' result
+    (spell_status (map string_bytes words.items)) (w.written sink) (w.written sink') result
 
 -- how a task leaves its source: untouched if it reads none, else as a run does
-abbrev pub LeavesSourceAfter : {R : Type 0} → Task → (R → ℕ) → (R → Bool) → R → R
+abbrev pub LeavesSourceAfter : {R : Type 0} → Source R → Task → R → R
     → Result Status RunFault → Type 0
-LeavesSourceAfter (Frame word) reads has_failed old new result = new ≡ old
-LeavesSourceAfter (Spell words) reads has_failed old new result = new ≡ old
-LeavesSourceAfter task reads has_failed old new result =
-    LeavesSource reads has_failed old new result
+LeavesSourceAfter r (Frame word) source source' result = source' ≡ source
+LeavesSourceAfter r (Spell words) source source' result = source' ≡ source
+LeavesSourceAfter r task source source' result = LeavesSource r source source' result

@@ -6,25 +6,25 @@ ghost use Rattle.vic_verdict.specs.Verdict.{IsVerdict};
 ghost use Rattle.vic_verdict.specs.declared.judging.Verdict.{Verdict as VerdictValue};
 ghost use Rattle.vic_verdict.specs.declared.judging.Verdict.TheVariants.{Complete};
 ghost use Rattle.vic_answer.specs.Answered as spec;
-ghost use Rattle.vic_answer.specs.CheckText.{IsAnswer, HasCompleteList};
+ghost use Rattle.vic_answer.specs.CheckText.{HasCompleteList};
 
 use std::alloc::{AllocError, Global};
 use vic_log::{LineFault, Log, LogFault, read_log};
 use vic_verdict::Verdict;
 
-/// What is answered to a text, by what is found in its log.
+/// What a text is answered by: what is found in its log, or its first fault.
 #[derive(Clone, Copy, Debug, Drop, PartialEq, Eq)]
 pub enum Answered<T> {
-    /// It has a log, and this is what was found in it.
+    /// The text has a log, and this was found in it.
     Found(T),
-    /// A line of it has a fault, and this is the first.
+    /// The text has no log: this is the first line with a fault.
     RefusedAt { line: u32, fault: LineFault },
 }
 
-/// The answer of `check`.
+/// The answer of `check`: the verdict on the log of a text, or the text's first fault.
 pub type Answer = Answered<Verdict>;
 
-/// What has the verdict on a log.
+/// What has the verdict on a log among what it says.
 pub trait HasVerdict {
     ghost verdict_of: { Self → VerdictValue };
 
@@ -33,7 +33,7 @@ pub trait HasVerdict {
         ensures { result ≡ verdict_of self.now };
 }
 
-/// What is found in a log, with the verdict on it.
+/// What a judge finds in a log: the verdict, and perhaps more.
 pub trait Judgement: HasVerdict {
     // what it has to be, for the lines of the log
     ghost IsOf: { List LogLineValue → Self → Type 0 };
@@ -47,7 +47,7 @@ pub trait Judgement: HasVerdict {
         → IsOf lines found → IsVerdict lines (Self.verdict_of found) };
 }
 
-/// The answer of `check` to the same text.
+/// The answer of `check` to the same text, by the verdict in what was found.
 pub fn answer_of<T: HasVerdict>(answered: &Answered<T>) -> Answer
     ensures { result ≡ spec.answer_of T.verdict_of answered.now }
 {
@@ -60,7 +60,7 @@ pub fn answer_of<T: HasVerdict>(answered: &Answered<T>) -> Answer
     }
 }
 
-/// Reads a text in memory. It fails only if memory is refused.
+/// The log of a text in memory, or its first fault. It fails only if memory is refused.
 pub fn read_text(alloc: Global, text: &[u8]) -> Result<Answered<Log>, AllocError>
     ensures { IfOk result (spec.IsReadAs text.now) }
 {
@@ -72,8 +72,8 @@ pub fn read_text(alloc: Global, text: &[u8]) -> Result<Answered<Log>, AllocError
     }
 }
 
-/// The answer to a text, by its log or first fault.
-pub(crate) fn answer_read<T: Judgement>(
+/// What is found in the log of a text, if it was read as one.
+pub(crate) fn find_in_read<T: Judgement>(
     alloc: Global,
     read: Answered<Log>,
 ) -> Result<Answered<T>, AllocError>
@@ -86,17 +86,18 @@ pub(crate) fn answer_read<T: Judgement>(
     }
 }
 
-/// The answer to a text in memory, by what is found in its log: a `Verdict` as `check` answers, an
-/// `Explanation` with a population that shows it, a `LogReport` with every finding, or a `Margin`.
-/// It fails only if memory is refused.
-pub fn answer_text<T: Judgement>(alloc: Global, text: &[u8]) -> Result<Answered<T>, AllocError>
+/// What is found in the log of a text in memory, or the text's first fault: a `Verdict`, as `check`
+/// answers, an `Explanation` with a population that shows it, a `LogReport` with every finding, or
+/// a `Margin`. It fails only if memory is refused.
+pub fn find_in_text<T: Judgement>(alloc: Global, text: &[u8]) -> Result<Answered<T>, AllocError>
     ensures found { IfOk result (spec.IsAnswered T.IsOf text.now) }
-    ensures answer { IfOk result (λ a. IsAnswer text.now (spec.answer_of T.verdict_of a)) }
+    ensures answer { IfOk result (λ a.
+        spec.IsAnswered IsVerdict text.now (spec.answer_of T.verdict_of a)) }
     // if it is `complete`, the list of the log is complete and has `count` UIDs
     ensures whole { IfOk result (λ a. (count : ℕ)
         → spec.answer_of T.verdict_of a ≡ Answered.Found (Complete count)
         → HasCompleteList text.now count) }
 {
     let read = read_text(alloc, text)?;
-    answer_read(alloc, read)
+    find_in_read(alloc, read)
 }

@@ -9,10 +9,10 @@ ghost use Rattle.vic_answer.specs.CompleteRun.{IsCompleteWhereWritten};
 ghost use Rattle.vic_answer.specs.Runs.{LeavesSink, LeavesSource, RunsOver, RunsOverRevealed};
 
 use crate::answered::{Answered, HasVerdict, Judgement, answer_of};
-use crate::lines::answer_line;
+use crate::lines::check_text;
 use crate::run::{LogCommand, run_judged};
 use crate::status::{RunFault, Status};
-use crate::text::{ANSWER_ROOM, Text, push_str};
+use crate::text::{ANSWER_ROOM, ShortText, push_str};
 use itoa::Buffer;
 use std::alloc::{AllocError, Global};
 use vic_frame::Uid;
@@ -76,25 +76,25 @@ pub fn run_explain<R: Source, W: Sink>(
     sink: &mut W,
 ) -> Result<Status, RunFault>
     // over the bytes that the reads returned and the writes accepted
-    ensures answer { RunsOver IsExplanationOf (R.returned source.old) (R.returned source.new)
-        (R.ended source.new) (W.written sink.old) (W.written sink.new) result }
+    ensures answer { RunsOver IsExplanationOf R.Source W.Sink
+        source.old source.new sink.old sink.new result }
     // if it wrote `complete N`, the list of the log is complete and has N UIDs
-    ensures complete { IsCompleteWhereWritten (R.returned source.old) (R.returned source.new)
-        (R.ended source.new) (W.written sink.old) (W.written sink.new) result }
+    ensures complete { IsCompleteWhereWritten R.Source W.Sink
+        source.old source.new sink.old sink.new result }
     // the same over the bytes that source and sink reveal
-    ensures answer_revealed { RunsOverRevealed IsExplanationOf
-        (R.left source.old) (R.left source.new) (W.taken sink.old) (W.taken sink.new) result }
-    ensures leaves_source { LeavesSource R.reads R.has_failed source.old source.new result }
-    ensures leaves_sink { LeavesSink W.is_flushed W.has_failed sink.old sink.new result }
+    ensures answer_revealed { RunsOverRevealed IsExplanationOf R.Source W.Sink
+        source.old source.new sink.old sink.new result }
+    ensures leaves_source { LeavesSource R.Source source.old source.new result }
+    ensures leaves_sink { LeavesSink W.Sink sink.old sink.new result }
 {
     run_judged::<Explanation, R, W>(alloc, source, sink)
 }
 
 /// The text up to the UIDs: the line of the answer and, if a population follows, that of its size.
-fn opening(explained: &Answered<Explanation>) -> Text
+fn opening(explained: &Answered<Explanation>) -> ShortText
     ensures { result.items ++ listed_text (uids_of explained.now) ≡ explained_text explained.now }
 {
-    let mut text = answer_line(&answer_of(explained));
+    let mut text = check_text(&answer_of(explained));
     if let Some(uids) = population_of(explained) {
         push_size(&mut text, uids.len());
     }
@@ -102,7 +102,7 @@ fn opening(explained: &Answered<Explanation>) -> Text
 }
 
 /// Appends the line of a population's size.
-fn push_size(text: &mut Text, count: usize)
+fn push_size(text: &mut ShortText, count: usize)
     requires { array_vec_len text.old < ANSWER_ROOM }
     ensures { text.new.items ≡ text.old.items ++ population_line count }
 {

@@ -2,7 +2,7 @@
 
 ghost use Rattle.std.specs.Prelude.{◌≡◌, IfOk};
 ghost use Rattle.std.specs.Iterator.{YieldsFirst, item_count};
-ghost use Rattle.vic_answer.specs.Findings.{answer_findings, report_findings};
+ghost use Rattle.vic_answer.specs.Findings.{findings_of, report_findings};
 ghost use Rattle.vic_answer.specs.inner.FindingsLeft.{findings_left};
 
 use crate::answered::Answered;
@@ -128,7 +128,7 @@ pub fn findings_of(
     alloc: Global,
     reported: &Answered<LogReport>,
 ) -> Result<Vec<Finding>, AllocError>
-    ensures { IfOk result (λ list. list.items ≡ answer_findings reported.now) }
+    ensures { IfOk result (λ list. list.items ≡ findings_of reported.now) }
 {
     match reported {
         Answered::Found(report) => every_finding(alloc, report),

@@ -9,7 +9,7 @@ ghost use Rattle.vic_answer.specs.Runs.{Writes};
 use crate::lines::refused_word;
 use crate::output::write_and_flush;
 use crate::status::{RunFault, Status};
-use crate::text::{TEXT_ROOM, Text, push_bytes, push_decimal, push_mask, push_str, push_uid};
+use crate::text::{ShortText, TEXT_ROOM, push_bytes, push_decimal, push_mask, push_str, push_uid};
 use arrayvec::ArrayVec;
 use vic_frame::{FrameFault, Request, Response, read_request, read_response};
 use vic_log::{MAX_LINE_LEN, Sink};
@@ -19,8 +19,7 @@ use vic_log::{MAX_LINE_LEN, Sink};
 /// memory.
 pub fn run_frame<W: Sink>(word: &[u8], sink: &mut W) -> Result<Status, RunFault>
     ensures status { IfOk result (λ s. s ≡ frame_status word.now) }
-    ensures written { Writes W.written W.taken W.is_flushed W.has_failed
-        sink.old sink.new (frame_text word.now) result }
+    ensures written { Writes W.Sink sink.old sink.new (frame_text word.now) result }
 {
     let (text, status) = text_and_status(word);
     write_and_flush(sink, text.as_slice())?;
@@ -28,7 +27,7 @@ pub fn run_frame<W: Sink>(word: &[u8], sink: &mut W) -> Result<Status, RunFault>
 }
 
 /// The text and the status for a word.
-fn text_and_status(word: &[u8]) -> (Text, Status)
+fn text_and_status(word: &[u8]) -> (ShortText, Status)
     ensures text { result.0.items ≡ frame_text word.now }
     ensures status { result.1 ≡ frame_status word.now }
 {
@@ -40,7 +39,7 @@ fn text_and_status(word: &[u8]) -> (Text, Status)
 }
 
 /// The text and the status for a word that is short enough.
-fn decoded(word: &[u8]) -> (Text, Status)
+fn decoded(word: &[u8]) -> (ShortText, Status)
     requires { length word.now ≤ MAX_LINE_LEN }
     ensures text { result.0.items ≡ bytes_text (decode_of word.now) }
     ensures status { result.1 ≡ bytes_status (decode_of word.now) }
@@ -67,7 +66,7 @@ fn decode(digits: &[u8], room: &mut [u8]) -> Option<usize>
 }
 
 /// The text and the status for some bytes: `Whole` if they are a request or a reply.
-fn of_bytes(bytes: &[u8]) -> (Text, Status)
+fn of_bytes(bytes: &[u8]) -> (ShortText, Status)
     ensures text { result.0.items ≡ bytes_text (Ok bytes.now) }
     ensures status { result.1 ≡ bytes_status (Ok bytes.now) }
 {
@@ -87,7 +86,7 @@ fn of_bytes(bytes: &[u8]) -> (Text, Status)
 }
 
 /// The line of a reading as a request.
-fn request_line(reading: &Result<Request, FrameFault>) -> Text
+fn request_line(reading: &Result<Request, FrameFault>) -> ShortText
     ensures items { result.items ≡ request_line reading.now }
     ensures len { 2 * array_vec_len result ≤ TEXT_ROOM }
 {
@@ -119,7 +118,7 @@ fn request_line(reading: &Result<Request, FrameFault>) -> Text
 }
 
 /// The line of a reading as a reply.
-fn response_line(reading: &Result<Response, FrameFault>) -> Text
+fn response_line(reading: &Result<Response, FrameFault>) -> ShortText
     ensures items { result.items ≡ response_line reading.now }
     ensures len { 2 * array_vec_len result ≤ TEXT_ROOM }
 {

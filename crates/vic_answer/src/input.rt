@@ -1,8 +1,8 @@
 //! How a log is read.
 
 ghost use Rattle.vic_answer.specs.Answered.{IsReadAs};
-ghost use Rattle.vic_answer.specs.inner.ReadBytes.{GivesOver, GivesOverRevealed};
-ghost use Rattle.vic_answer.specs.Runs.{LeavesSource};
+ghost use Rattle.vic_answer.specs.inner.ReadBytes.{Gives};
+ghost use Rattle.vic_answer.specs.Runs.{LeavesSource, as_returned, as_revealed};
 
 use crate::answered::Answered;
 use crate::status::RunFault;
@@ -14,11 +14,9 @@ pub(crate) fn read_source<R: Source>(
     alloc: Global,
     source: &mut R,
 ) -> Result<Answered<Log>, RunFault>
-    ensures reading { GivesOver IsReadAs (R.returned source.old) (R.returned source.new)
-        (R.ended source.new) result }
-    ensures reading_revealed { GivesOverRevealed IsReadAs (R.left source.old) (R.left source.new)
-        result }
-    ensures leaves_source { LeavesSource R.reads R.has_failed source.old source.new result }
+    ensures reading { Gives IsReadAs (as_returned R.Source source.old source.new) result }
+    ensures reading_revealed { Gives IsReadAs (as_revealed R.Source source.old source.new) result }
+    ensures leaves_source { LeavesSource R.Source source.old source.new result }
 {
     match LogReader::new(alloc).read_all(source) {
         Ok(log) => Ok(Answered::Found(log)),

@@ -22,12 +22,12 @@ mod status;
 mod task;
 mod text;
 
-pub use answered::{Answer, Answered, HasVerdict, Judgement, answer_of, answer_text, read_text};
+pub use answered::{Answer, Answered, HasVerdict, Judgement, answer_of, find_in_text, read_text};
 pub use check::{judge_text, run_check};
 pub use explain::{run_explain, uids_of};
 pub use findings::{Finding, findings_of};
 pub use frame::run_frame;
-pub use lines::{answer_line, answer_status};
+pub use lines::{check_status, check_text};
 pub use margin::run_margin;
 pub use report::run_report;
 pub use run::{LogCommand, WrittenText, written_text};

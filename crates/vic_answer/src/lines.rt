@@ -1,4 +1,5 @@
-//! Lines that several commands write, of verdicts and of refusals; and the status of an answer.
+//! What `check` writes for an answer, and its status; and the lines of verdicts and refusals, which
+//! other commands write too.
 
 ghost use Rattle.std.specs.Prelude.{◌≡◌, ◌<◌, ◌≤◌, length};
 ghost use Rattle.arrayvec.specs.ArrayVec.{array_vec_len};
@@ -7,7 +8,7 @@ ghost use Rattle.vic_answer.specs.Refusals as refusals;
 
 use crate::answered::Answer;
 use crate::status::Status;
-use crate::text::{ANSWER_ROOM, Text, push_decimal, push_mask, push_str, push_uid};
+use crate::text::{ANSWER_ROOM, ShortText, push_decimal, push_mask, push_str, push_uid};
 use arrayvec::ArrayVec;
 use vic_log::LineFault;
 use vic_verdict::Verdict;
@@ -15,9 +16,9 @@ use vic_verdict::Verdict;
 /// The greatest length of a fault's name.
 pub(crate) const MAX_NAME_LEN: usize = 16;
 
-/// The line of an answer, with its LF.
-pub fn answer_line(answer: &Answer) -> Text
-    ensures items { result.items ≡ spec.answer_line answer.now }
+/// What `check` writes for an answer: one line, LF included.
+pub fn check_text(answer: &Answer) -> ShortText
+    ensures items { result.items ≡ spec.check_text answer.now }
     ensures len { array_vec_len result < ANSWER_ROOM }
 {
     match answer {
@@ -26,9 +27,9 @@ pub fn answer_line(answer: &Answer) -> Text
     }
 }
 
-/// The status of an answer.
-pub fn answer_status(answer: &Answer) -> Status
-    ensures { result ≡ spec.answer_status answer.now }
+/// The status with which `check` ends for an answer.
+pub fn check_status(answer: &Answer) -> Status
+    ensures { result ≡ spec.check_status answer.now }
 {
     match answer {
         Answer::Found(verdict) => verdict_status(verdict),
@@ -49,7 +50,7 @@ pub(crate) fn verdict_status(verdict: &Verdict) -> Status
 }
 
 /// The line of a verdict.
-pub(crate) fn verdict_line(verdict: &Verdict) -> Text
+pub(crate) fn verdict_line(verdict: &Verdict) -> ShortText
     ensures items { result.items ≡ spec.verdict_line verdict.now }
     ensures len { array_vec_len result < ANSWER_ROOM }
 {
@@ -85,7 +86,7 @@ pub(crate) fn verdict_line(verdict: &Verdict) -> Text
 }
 
 /// The line of a refusal, by the name of its fault.
-pub(crate) fn refused_at(line: u32, name: &str) -> Text
+pub(crate) fn refused_at(line: u32, name: &str) -> ShortText
     requires { length name.now ≤ MAX_NAME_LEN }
     ensures items { result.items ≡ refusals.refused_at line name.now }
     ensures len { array_vec_len result < ANSWER_ROOM }
@@ -100,7 +101,7 @@ pub(crate) fn refused_at(line: u32, name: &str) -> Text
 }
 
 /// The line of a refusal, by the fault of the line.
-pub(crate) fn refusal_line(line: u32, fault: &LineFault) -> Text
+pub(crate) fn refusal_line(line: u32, fault: &LineFault) -> ShortText
     ensures items { result.items ≡ refusals.refusal_line line fault.now }
     ensures len { array_vec_len result < ANSWER_ROOM }
 {
@@ -108,7 +109,7 @@ pub(crate) fn refusal_line(line: u32, fault: &LineFault) -> Text
 }
 
 /// The line of a refused frame, or words, by the name of the fault.
-pub(crate) fn refused_word(name: &str) -> Text
+pub(crate) fn refused_word(name: &str) -> ShortText
     requires { length name.now ≤ MAX_NAME_LEN }
     ensures { result.items ≡ refusals.refused_word name.now }
 {

@@ -7,11 +7,11 @@ ghost use Rattle.vic_answer.specs.MarginText.{IsMarginOf, IsMarginOfLines, mask_
 ghost use Rattle.vic_answer.specs.Runs.{LeavesSink, LeavesSource, RunsOver, RunsOverRevealed};
 
 use crate::answered::{Answered, HasVerdict, Judgement, answer_of};
-use crate::lines::answer_line;
+use crate::lines::check_text;
 use crate::output::write_and_flush;
 use crate::run::{LogCommand, run_judged};
 use crate::status::{RunFault, Status};
-use crate::text::{ANSWER_ROOM, MASK_LEN, TEXT_ROOM, Text, push_decimal, push_mask, push_str};
+use crate::text::{ANSWER_ROOM, MASK_LEN, ShortText, TEXT_ROOM, push_decimal, push_mask, push_str};
 use std::alloc::{AllocError, Global};
 use vic_frame::Mask;
 use vic_log::{Log, Sink, Source};
@@ -56,26 +56,26 @@ pub fn run_margin<R: Source, W: Sink>(
     sink: &mut W,
 ) -> Result<Status, RunFault>
     // over the bytes that the reads returned and the writes accepted
-    ensures answer { RunsOver IsMarginOf (R.returned source.old) (R.returned source.new)
-        (R.ended source.new) (W.written sink.old) (W.written sink.new) result }
+    ensures answer { RunsOver IsMarginOf R.Source W.Sink
+        source.old source.new sink.old sink.new result }
     // if it wrote `complete N`, the list of the log is complete and has N UIDs
-    ensures complete { IsCompleteWhereWrittenFirst (R.returned source.old) (R.returned source.new)
-        (R.ended source.new) (W.written sink.old) (W.written sink.new) result }
+    ensures complete { IsCompleteWhereWrittenFirst R.Source W.Sink
+        source.old source.new sink.old sink.new result }
     // the same over the bytes that source and sink reveal
-    ensures answer_revealed { RunsOverRevealed IsMarginOf
-        (R.left source.old) (R.left source.new) (W.taken sink.old) (W.taken sink.new) result }
-    ensures leaves_source { LeavesSource R.reads R.has_failed source.old source.new result }
-    ensures leaves_sink { LeavesSink W.is_flushed W.has_failed sink.old sink.new result }
+    ensures answer_revealed { RunsOverRevealed IsMarginOf R.Source W.Sink
+        source.old source.new sink.old sink.new result }
+    ensures leaves_source { LeavesSource R.Source source.old source.new result }
+    ensures leaves_sink { LeavesSink W.Sink sink.old sink.new result }
 {
     run_judged::<Margin, R, W>(alloc, source, sink)
 }
 
 /// The lines of an answer: after that of `check` the margin, the weakest mask and the two readings,
 /// if it is `complete`.
-fn measured_text(measured: &Answered<Margin>) -> Text
+fn measured_text(measured: &Answered<Margin>) -> ShortText
     ensures { result.items ≡ measured_text measured.now }
 {
-    let mut text = answer_line(&answer_of(measured));
+    let mut text = check_text(&answer_of(measured));
     if let Answered::Found(margin) = measured {
         if let Verdict::Complete { .. } = margin.verdict {
             push_weakest(&mut text, &margin.weakest);
@@ -86,7 +86,7 @@ fn measured_text(measured: &Answered<Margin>) -> Text
 }
 
 /// Appends the lines of the margin of a log and of its weakest mask, if it has them.
-fn push_weakest(text: &mut Text, weakest: &Option<Weakest>)
+fn push_weakest(text: &mut ShortText, weakest: &Option<Weakest>)
     requires { array_vec_len text.old < ANSWER_ROOM }
     ensures items { text.new.items ≡ text.old.items ++ weakest_text weakest.now }
     ensures len { array_vec_len text.new < 2 * ANSWER_ROOM }
@@ -101,7 +101,7 @@ fn push_weakest(text: &mut Text, weakest: &Option<Weakest>)
 }
 
 /// Appends the lines of the hidden and of the deaf reading of a log, if it has them.
-fn push_readings(text: &mut Text, readings: &Option<Readings>)
+fn push_readings(text: &mut ShortText, readings: &Option<Readings>)
     requires { array_vec_len text.old < 2 * ANSWER_ROOM }
     ensures { text.new.items ≡ text.old.items ++ readings_text readings.now }
 {
@@ -115,7 +115,7 @@ fn push_readings(text: &mut Text, readings: &Option<Readings>)
 }
 
 /// Appends a mask, or `-` if there is none.
-fn push_mask_or_none(text: &mut Text, mask: &Option<Mask>)
+fn push_mask_or_none(text: &mut ShortText, mask: &Option<Mask>)
     requires { array_vec_len text.old + MASK_LEN ≤ TEXT_ROOM }
     ensures items { text.new.items ≡ text.old.items ++ mask_or_none mask.now }
     ensures len { array_vec_len text.new ≤ array_vec_len text.old + MASK_LEN }

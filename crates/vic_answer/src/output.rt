@@ -7,7 +7,7 @@ use vic_log::{Sink, write_whole};
 
 /// Writes a text and flushes it. A sink that has failed isn't written to again.
 pub(crate) fn write_and_flush<W: Sink>(sink: &mut W, text: &[u8]) -> Result<(), RunFault>
-    ensures { Writes W.written W.taken W.is_flushed W.has_failed sink.old sink.new text.now result }
+    ensures { Writes W.Sink sink.old sink.new text.now result }
 {
     if write_whole(sink, text).is_err() || sink.flush().is_err() {
         return Err(RunFault::Write);

@@ -3,7 +3,7 @@
 ghost use Rattle.vic_answer.specs.inner.Pieces.{Pushes};
 
 use crate::status::RunFault;
-use crate::text::Text;
+use crate::text::ShortText;
 use arrayvec::ArrayVec;
 use vic_log::{Sink, WRITTEN_AT_ONCE, write_whole};
 
@@ -14,9 +14,9 @@ pub(crate) type Piece = ArrayVec<u8, WRITTEN_AT_ONCE>;
 pub(crate) fn push_text<W: Sink>(
     piece: &mut Piece,
     sink: &mut W,
-    text: &Text,
+    text: &ShortText,
 ) -> Result<(), RunFault>
-    ensures { Pushes W.written W.taken W.has_failed sink.old sink.new
+    ensures { Pushes W.Sink sink.old sink.new
         piece.old.items piece.new.items text.now.items result }
 {
     if piece.len() + text.len() > WRITTEN_AT_ONCE {

@@ -58,16 +58,16 @@ pub fn run_report<R: Source, W: Sink>(
     sink: &mut W,
 ) -> Result<Status, RunFault>
     // over the bytes that the reads returned and the writes accepted
-    ensures answer { RunsOver IsReportOf (R.returned source.old) (R.returned source.new)
-        (R.ended source.new) (W.written sink.old) (W.written sink.new) result }
+    ensures answer { RunsOver IsReportOf R.Source W.Sink
+        source.old source.new sink.old sink.new result }
     // if it wrote `complete N`, the list of the log is complete and has N UIDs
-    ensures complete { IsCompleteWhereWritten (R.returned source.old) (R.returned source.new)
-        (R.ended source.new) (W.written sink.old) (W.written sink.new) result }
+    ensures complete { IsCompleteWhereWritten R.Source W.Sink
+        source.old source.new sink.old sink.new result }
     // the same over the bytes that source and sink reveal
-    ensures answer_revealed { RunsOverRevealed IsReportOf
-        (R.left source.old) (R.left source.new) (W.taken sink.old) (W.taken sink.new) result }
-    ensures leaves_source { LeavesSource R.reads R.has_failed source.old source.new result }
-    ensures leaves_sink { LeavesSink W.is_flushed W.has_failed sink.old sink.new result }
+    ensures answer_revealed { RunsOverRevealed IsReportOf R.Source W.Sink
+        source.old source.new sink.old sink.new result }
+    ensures leaves_source { LeavesSource R.Source source.old source.new result }
+    ensures leaves_sink { LeavesSink W.Sink sink.old sink.new result }
 {
     run_judged::<LogReport, R, W>(alloc, source, sink)
 }
@@ -78,7 +78,7 @@ fn push_reported<W: Sink>(
     sink: &mut W,
     reported: &Answered<LogReport>,
 ) -> Result<(), RunFault>
-    ensures { Pushes W.written W.taken W.has_failed sink.old sink.new
+    ensures { Pushes W.Sink sink.old sink.new
         piece.old.items piece.new.items (reported_text reported.now) result }
 {
     match reported {

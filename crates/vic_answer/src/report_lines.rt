@@ -11,7 +11,7 @@ use crate::findings::{Finding, findings_in};
 use crate::lines::verdict_line;
 use crate::pieces::{Piece, push_text};
 use crate::status::RunFault;
-use crate::text::{ANSWER_ROOM, Text, push_decimal, push_mask, push_str};
+use crate::text::{ANSWER_ROOM, ShortText, push_decimal, push_mask, push_str};
 use arrayvec::ArrayVec;
 use vic_log::Sink;
 use vic_report::LogReport;
@@ -23,7 +23,7 @@ pub(crate) fn push_report<W: Sink>(
     sink: &mut W,
     report: &LogReport,
 ) -> Result<(), RunFault>
-    ensures { Pushes W.written W.taken W.has_failed sink.old sink.new
+    ensures { Pushes W.Sink sink.old sink.new
         piece.old.items piece.new.items (spec.report_text report.now) result }
 {
     push_text(piece, sink, &heading(report))?;
@@ -31,7 +31,7 @@ pub(crate) fn push_report<W: Sink>(
 }
 
 /// What stands before the findings: the verdict, unless it is the first of them.
-fn heading(report: &LogReport) -> Text
+fn heading(report: &LogReport) -> ShortText
     ensures { result.items ≡ spec.heading report.now }
 {
     match report {
@@ -50,7 +50,7 @@ fn push_findings<W: Sink>(
     sink: &mut W,
     report: &LogReport,
 ) -> Result<(), RunFault>
-    ensures { Pushes W.written W.taken W.has_failed sink.old sink.new
+    ensures { Pushes W.Sink sink.old sink.new
         piece.old.items piece.new.items
         (flat_map spec.finding_text (report_findings report.now)) result }
 {
@@ -61,7 +61,7 @@ fn push_findings<W: Sink>(
 }
 
 /// The lines of a finding.
-fn finding_text(finding: &Finding) -> Text
+fn finding_text(finding: &Finding) -> ShortText
     ensures { result.items ≡ spec.finding_text finding.now }
 {
     let mut text = ArrayVec::new();
@@ -92,7 +92,7 @@ fn finding_text(finding: &Finding) -> Text
 }
 
 /// Appends the line that names a line of the log.
-fn push_by_line(text: &mut Text, line: u32)
+fn push_by_line(text: &mut ShortText, line: u32)
     requires { array_vec_len text.old < ANSWER_ROOM }
     ensures { text.new.items ≡ text.old.items ++ spec.by_line line }
 {

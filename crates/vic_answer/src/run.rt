@@ -2,60 +2,57 @@
 
 ghost use Rattle.std.specs.Prelude.{◌≡◌, ℕ, List, IfOk};
 ghost use Rattle.vic_answer.specs.Answered as spec;
-ghost use Rattle.vic_answer.specs.CheckText.{IsAnswerText, answer_status};
+ghost use Rattle.vic_answer.specs.CheckText.{IsCommandText, check_status};
 ghost use Rattle.vic_answer.specs.Runs.{LeavesSink, LeavesSource, RunsOver, RunsOverRevealed, Writes};
 ghost use Rattle.vic_answer.specs.declared.answered.Answered.{Answered as AnsweredValue};
 
-use crate::answered::{Answered, Judgement, answer_of, answer_read, answer_text};
+use crate::answered::{Answered, Judgement, answer_of, find_in_read, find_in_text};
 use crate::input::read_source;
-use crate::lines::answer_status;
+use crate::lines::check_status;
 use crate::status::{RunFault, Status};
 use std::alloc::{AllocError, Global};
 use vic_log::{Sink, Source, ToWrite};
 
-/// A command that judges a log: what it finds, and how it writes an answer.
+/// What a command finds that judges a log, and how the command writes it.
 pub trait LogCommand: Judgement + Drop {
-    // the text of an answer
+    // what the command writes for what it found, or for a fault of the text
     ghost text_of: { AnsweredValue Self → List ℕ };
 
-    /// Writes the text of an answer, and flushes.
+    /// Writes that text, and flushes.
     fn write<W: Sink>(answered: &Answered<Self>, sink: &mut W) -> Result<(), RunFault>
-        ensures { Writes W.written W.taken W.is_flushed W.has_failed
-            sink.old sink.new (text_of answered.now) result };
+        ensures { Writes W.Sink sink.old sink.new (text_of answered.now) result };
 }
 
-/// Judges the log that is read from a source, writes the answer and flushes it. The status is that
-/// of `check`. It reads to the end or an early fault.
+/// Judges the log that is read from a source, writes what the command writes for it, and flushes.
+/// The status is that of `check`. It reads to the end or an early fault.
 pub(crate) fn run_judged<J: LogCommand, R: Source, W: Sink>(
     alloc: Global,
     source: &mut R,
     sink: &mut W,
 ) -> Result<Status, RunFault>
-    ensures answer { RunsOver (IsAnswerText J.IsOf J.verdict_of J.text_of) (R.returned source.old)
-        (R.returned source.new) (R.ended source.new)
-        (W.written sink.old) (W.written sink.new) result }
-    ensures answer_revealed { RunsOverRevealed (IsAnswerText J.IsOf J.verdict_of J.text_of)
-        (R.left source.old) (R.left source.new) (W.taken sink.old) (W.taken sink.new) result }
-    ensures leaves_source { LeavesSource R.reads R.has_failed source.old source.new result }
-    ensures leaves_sink { LeavesSink W.is_flushed W.has_failed sink.old sink.new result }
+    ensures answer { RunsOver (IsCommandText J.IsOf J.verdict_of J.text_of) R.Source W.Sink
+        source.old source.new sink.old sink.new result }
+    ensures answer_revealed { RunsOverRevealed (IsCommandText J.IsOf J.verdict_of J.text_of)
+        R.Source W.Sink source.old source.new sink.old sink.new result }
+    ensures leaves_source { LeavesSource R.Source source.old source.new result }
+    ensures leaves_sink { LeavesSink W.Sink sink.old sink.new result }
 {
     let read = read_source(alloc, source)?;
-    let answered = answer_read::<J>(alloc, read)?;
+    let answered = find_in_read::<J>(alloc, read)?;
     write_answered(&answered, sink)
 }
 
-/// Writes the text of an answer, and flushes; returns its status.
+/// Writes the text of a command, and flushes; returns its status.
 fn write_answered<J: LogCommand, W: Sink>(
     answered: &Answered<J>,
     sink: &mut W,
 ) -> Result<Status, RunFault>
     ensures status { IfOk result (λ s.
-        s ≡ answer_status (spec.answer_of J.verdict_of answered.now)) }
-    ensures written { Writes W.written W.taken W.is_flushed W.has_failed
-        sink.old sink.new (J.text_of answered.now) result }
+        s ≡ check_status (spec.answer_of J.verdict_of answered.now)) }
+    ensures written { Writes W.Sink sink.old sink.new (J.text_of answered.now) result }
 {
     J::write(answered, sink)?;
-    Ok(answer_status(&answer_of(answered)))
+    Ok(check_status(&answer_of(answered)))
 }
 
 /// What a command writes, and its status.
@@ -67,10 +64,10 @@ pub struct WrittenText {
 
 /// What a command writes for a text in memory. It fails only if memory is refused.
 pub fn written_text<J: LogCommand>(alloc: Global, text: &[u8]) -> Result<WrittenText, AllocError>
-    ensures { IfOk result (λ w. IsAnswerText J.IsOf J.verdict_of J.text_of
+    ensures { IfOk result (λ w. IsCommandText J.IsOf J.verdict_of J.text_of
         text.now w.text.items w.status) }
 {
-    let answered = answer_text::<J>(alloc, text)?;
+    let answered = find_in_text::<J>(alloc, text)?;
     let mut sink = ToWrite::new(Vec::new(alloc));
     match write_answered(&answered, &mut sink) {
         Ok(status) => Ok(WrittenText {

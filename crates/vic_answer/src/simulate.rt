@@ -11,7 +11,7 @@ use crate::lines::{refusal_line, refused_at};
 use crate::output::write_and_flush;
 use crate::run::WrittenText;
 use crate::status::{RunFault, Status};
-use crate::text::Text;
+use crate::text::ShortText;
 use std::alloc::{AllocError, Global};
 use vic_field::{SimFault, simulate};
 use vic_log::{LineFault, Log, MAX_LINES, Sink, Source, ToWrite, write_log};
@@ -57,13 +57,13 @@ pub fn run_simulate<R: Source, W: Sink>(
     sink: &mut W,
 ) -> Result<Status, RunFault>
     // over the bytes that the reads returned and the writes accepted
-    ensures answer { RunsOver IsSimulationOf (R.returned source.old) (R.returned source.new)
-        (R.ended source.new) (W.written sink.old) (W.written sink.new) result }
+    ensures answer { RunsOver IsSimulationOf R.Source W.Sink
+        source.old source.new sink.old sink.new result }
     // the same over the bytes that source and sink reveal
-    ensures answer_revealed { RunsOverRevealed IsSimulationOf
-        (R.left source.old) (R.left source.new) (W.taken sink.old) (W.taken sink.new) result }
-    ensures leaves_source { LeavesSource R.reads R.has_failed source.old source.new result }
-    ensures leaves_sink { LeavesSink W.is_flushed W.has_failed sink.old sink.new result }
+    ensures answer_revealed { RunsOverRevealed IsSimulationOf R.Source W.Sink
+        source.old source.new sink.old sink.new result }
+    ensures leaves_source { LeavesSource R.Source source.old source.new result }
+    ensures leaves_sink { LeavesSink W.Sink sink.old sink.new result }
 {
     let read = read_source(alloc, source)?;
     let simulated = simulate_read(alloc, read)?;
@@ -98,10 +98,9 @@ fn simulate_log(alloc: Global, given: &Log) -> Result<Simulated, AllocError>
 }
 
 /// Writes the line of a refusal, and flushes.
-fn refuse<W: Sink>(line: &Text, sink: &mut W) -> Result<Status, RunFault>
+fn refuse<W: Sink>(line: &ShortText, sink: &mut W) -> Result<Status, RunFault>
     ensures status { IfOk result (λ s. s ≡ Status.Refused) }
-    ensures written { Writes W.written W.taken W.is_flushed W.has_failed
-        sink.old sink.new line.now.items result }
+    ensures written { Writes W.Sink sink.old sink.new line.now.items result }
 {
     write_and_flush(sink, line.as_slice())?;
     Ok(Status::Refused)
@@ -113,8 +112,7 @@ fn write_simulated<W: Sink>(
     sink: &mut W,
 ) -> Result<Status, RunFault>
     ensures status { IfOk result (λ s. s ≡ simulated_status simulated) }
-    ensures written { Writes W.written W.taken W.is_flushed W.has_failed
-        sink.old sink.new (simulated_text simulated) result }
+    ensures written { Writes W.Sink sink.old sink.new (simulated_text simulated) result }
 {
     match simulated {
         Answered::Found(Simulated::Filled(log)) => match write_log(&log, sink) {

@@ -9,7 +9,7 @@ ghost use Rattle.vic_answer.specs.Runs.{Writes};
 use crate::lines::refused_word;
 use crate::output::write_and_flush;
 use crate::status::{RunFault, Status};
-use crate::text::{Text, push_str};
+use crate::text::{ShortText, push_str};
 use arrayvec::ArrayVec;
 use vic_frame::{
     MAX_MASK_LEN, MAX_MASK_LEN_OF_SIXTEEN, Mask, Request, Response, Uid, write_request,
@@ -56,7 +56,7 @@ enum Frame {
 /// and flushes. It allocates no memory.
 pub fn run_spell<W: Sink>(words: &[String], sink: &mut W) -> Result<Status, RunFault>
     ensures status { IfOk result (λ s. s ≡ spec.spell_status (map string_bytes words.now)) }
-    ensures written { Writes W.written W.taken W.is_flushed W.has_failed
+    ensures written { Writes W.Sink
         sink.old sink.new (spec.spell_text (map string_bytes words.now)) result }
 {
     let (text, status) = text_and_status(words);
@@ -65,7 +65,7 @@ pub fn run_spell<W: Sink>(words: &[String], sink: &mut W) -> Result<Status, RunF
 }
 
 /// The text and the status for some words.
-fn text_and_status(words: &[String]) -> (Text, Status)
+fn text_and_status(words: &[String]) -> (ShortText, Status)
     ensures text { result.0.items ≡ spec.spell_text (map string_bytes words.now) }
     ensures status { result.1 ≡ spec.spell_status (map string_bytes words.now) }
 {
@@ -76,7 +76,7 @@ fn text_and_status(words: &[String]) -> (Text, Status)
 }
 
 /// The line of a frame, in hex digits.
-fn frame_line(what: &Frame) -> Text
+fn frame_line(what: &Frame) -> ShortText
     requires { spec.IsSendable what.now }
     ensures { result.items ≡ encode_upper (spec.frame_of what.now) ++ codes "\n" }
 {

@@ -58,11 +58,9 @@ pub fn do_task<R: Source, W: Sink>(
     source: &mut R,
     sink: &mut W,
 ) -> Result<Status, RunFault>
-    ensures does { Does task.now (R.returned source.old) (R.returned source.new)
-        (R.ended source.new) (W.written sink.old) (W.written sink.new) result }
-    ensures leaves_source { LeavesSourceAfter task.now R.reads R.has_failed source.old source.new
-        result }
-    ensures leaves_sink { LeavesSink W.is_flushed W.has_failed sink.old sink.new result }
+    ensures does { Does R.Source W.Sink task.now source.old source.new sink.old sink.new result }
+    ensures leaves_source { LeavesSourceAfter R.Source task.now source.old source.new result }
+    ensures leaves_sink { LeavesSink W.Sink sink.old sink.new result }
 {
     match task {
         Task::Check(_) => run_check(alloc, source, sink),

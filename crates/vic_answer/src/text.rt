@@ -16,13 +16,13 @@ pub const ANSWER_ROOM: usize = 64;
 pub const TEXT_ROOM: usize = 4 * ANSWER_ROOM;
 
 /// A short text, in a buffer of fixed size.
-pub type Text = ArrayVec<u8, TEXT_ROOM>;
+pub type ShortText = ArrayVec<u8, TEXT_ROOM>;
 
 /// The greatest number of digits that a `u32` has in decimal.
 const DECIMAL_LEN: usize = 10;
 
 /// Appends a text.
-pub(crate) fn push_str(text: &mut Text, word: &str)
+pub(crate) fn push_str(text: &mut ShortText, word: &str)
     requires { array_vec_len text.old + length word.now ≤ TEXT_ROOM }
     ensures items { text.new.items ≡ text.old.items ++ word.now }
     ensures len { array_vec_len text.new ≡ array_vec_len text.old + length word.now }
@@ -33,7 +33,7 @@ pub(crate) fn push_str(text: &mut Text, word: &str)
 }
 
 /// Appends a number, in decimal digits.
-pub(crate) fn push_decimal(text: &mut Text, number: u32)
+pub(crate) fn push_decimal(text: &mut ShortText, number: u32)
     requires { array_vec_len text.old + DECIMAL_LEN ≤ TEXT_ROOM }
     ensures items { text.new.items ≡ text.old.items ++ decimal number }
     ensures len { array_vec_len text.new ≤ array_vec_len text.old + DECIMAL_LEN }
@@ -43,7 +43,7 @@ pub(crate) fn push_decimal(text: &mut Text, number: u32)
 }
 
 /// Appends the last `count` bytes of a number, most significant first, in hex digits.
-pub(crate) fn push_bytes(text: &mut Text, count: usize, number: u64)
+pub(crate) fn push_bytes(text: &mut ShortText, count: usize, number: u64)
     requires room { array_vec_len text.old + HEX_LEN ≤ TEXT_ROOM }
     requires count { count ≤ 8 }
     ensures items { text.new.items ≡ text.old.items ++ hex_bytes count number }
@@ -55,7 +55,7 @@ pub(crate) fn push_bytes(text: &mut Text, count: usize, number: u64)
 }
 
 /// Appends a UID, in hex digits.
-pub(crate) fn push_uid(text: &mut Text, uid: u64)
+pub(crate) fn push_uid(text: &mut ShortText, uid: u64)
     requires { array_vec_len text.old + HEX_LEN ≤ TEXT_ROOM }
     ensures items { text.new.items ≡ text.old.items ++ uid_text uid }
     ensures len { array_vec_len text.new ≤ array_vec_len text.old + HEX_LEN }
@@ -67,7 +67,7 @@ pub(crate) fn push_uid(text: &mut Text, uid: u64)
 pub(crate) const MASK_LEN: usize = DECIMAL_LEN + 1 + HEX_LEN;
 
 /// Appends a mask: its length and its value.
-pub(crate) fn push_mask(text: &mut Text, mask: &Mask)
+pub(crate) fn push_mask(text: &mut ShortText, mask: &Mask)
     requires { array_vec_len text.old + MASK_LEN ≤ TEXT_ROOM }
     ensures items { text.new.items ≡ text.old.items ++ mask_text mask.now }
     ensures len { array_vec_len text.new ≤ array_vec_len text.old + MASK_LEN }
@@ -78,7 +78,7 @@ pub(crate) fn push_mask(text: &mut Text, mask: &Mask)
 }
 
 /// Appends the value of a mask.
-fn push_value(text: &mut Text, mask: &Mask)
+fn push_value(text: &mut ShortText, mask: &Mask)
     requires { array_vec_len text.old + HEX_LEN ≤ TEXT_ROOM }
     ensures items { text.new.items ≡ text.old.items ++ value_text mask.now }
     ensures len { array_vec_len text.new ≤ array_vec_len text.old + HEX_LEN }

@@ -1,5 +1,5 @@
 -- The findings of a collection, over all families of populations that may have been in the fields.
-use Rattle.vic_collection.proofs.Words.{◌≡◌, ◌+◌, ℕ, List, [], ◌∷◌, Bool, true, false, ◌||◌, ◌&&◌, not, cond, Some, None, Option, is_some, refl, sym, ap, subst, ◌∙◌, ⊎_elim, ◌⊎◌, ◌↔◌, All, AllZip, MatchOption, slice_get, get_or, length, both_ways, false≢true, false_from_ne_true, true_from_ne_false, IsUid, Any-from_list_any, list_any-from_Any, slice_get-get_or, slice_get_read, SurveyValue, HasPossibleLog, IsSurveyOf, IsCertainIn, IsCertainUid, IsPossibleIn, IsPossibleUid}
+use Rattle.vic_collection.proofs.Words.{◌≡◌, ◌+◌, ℕ, List, [], ◌∷◌, Bool, true, false, ◌||◌, ◌&&◌, not, cond, Some, None, Option, is_some, refl, sym, ap, subst, ◌∙◌, ⊎_elim, ◌↔◌, All, AllZip, MatchOption, slice_get, get_or, length, both_ways, false≢true, false_from_ne_true, true_from_ne_false, IsUid, Any-from_list_any, list_any-from_Any, slice_get-get_or, slice_get_read, SurveyValue, HasPossibleLog, IsSurveyOf, IsCertainIn, IsCertainUid, IsPossibleIn, IsPossibleUid}
 use Rattle.std.specs.List.{position_from}
 use Rattle.std.proofs.lemmas.Bool.{and_from, and_parts, not-true}
 use Rattle.std.proofs.lemmas.Iterator.Adapters.{position_from-zero}
@@ -11,17 +11,17 @@ use Rattle.vic_verdict.proofs.Failing.{first_is_least, list_as}
 use Rattle.vic_report.specs.Findings.{ShowsCertain}
 use Rattle.vic_report.specs.declared.shown.ShownUid.{ShownUid}
 use Rattle.vic_survey.specs.Making.{IsFieldOf}
-use Rattle.vic_survey.specs.declared.survey.Field.{Field}
-use Rattle.vic_survey.specs.declared.survey.Field.TheVariants.{Refused, Impossible, Possible}
+use Rattle.vic_survey.specs.declared.survey.SurveyedField.{SurveyedField}
+use Rattle.vic_survey.specs.declared.survey.SurveyedField.TheVariants.{Refused, Impossible, Possible}
 use Rattle.vic_table.specs.Values.{ItemValue}
 use Rattle.vic_collection.specs.declared.findings.Findings.{Findings}
-use Rattle.vic_collection.specs.declared.state.State.TheVariants.{NotProvable, Missing}
+use Rattle.vic_collection.specs.declared.state.State.TheVariants.{Doubtful, Absent}
 use Rattle.vic_collection.specs.declared.unlisted.UnlistedUid.{UnlistedUid}
 use Rattle.vic_collection.specs.Against.{AreFindingsAgainst, HaveUids, IsAbsent, IsDoubtful, IsFirstLogWith, IsFirstTold, IsLogWith, IsShownIn, IsUndecided, IsUndecidedIn, IsUnlisted}
 use Rattle.vic_collection.specs.Against as against
-use Rattle.vic_collection.specs.Collections.{CollectionValue, is_certain_in, is_certain_somewhere, is_not_possible, is_number, is_of_item, is_possible_in, is_possible_somewhere, is_undecided_in, is_unexpected, positions_from, possible_logs, tells_nothing}
-use Rattle.vic_collection.specs.Findings.{AreFindings, AreOpenMasksOf, IsShownBy, IsShownFirst, IsUidIn, IsUnsettled, is_left_open}
-use Rattle.vic_collection.specs.States.{is_certain_at, is_looked_for, is_uncounted, state_by}
+use Rattle.vic_collection.specs.Collections.{CollectionValue, is_certain_in, is_certain_somewhere, is_not_possible, is_number, is_of_item, is_possible_in, is_possible_somewhere, is_undecided_in, is_unlisted, positions_from, possible_logs, tells_nothing}
+use Rattle.vic_collection.specs.Findings.{AreFindings, AreOpenMasksOfSurvey, IsShownBy, IsShownFirst, IsUidIn, IsUnsettled, is_left_open}
+use Rattle.vic_collection.specs.States.{is_certain_at, is_looked_for, is_place_without_log, state_by}
 use Rattle.vic_collection.proofs.Families.{any_at, beside, certain_in_some, possible_in_some}
 use Rattle.vic_collection.proofs.Items.{certain_at_somewhere, item_with, missing_from, missing_to, number_of, unproved_from, unproved_to}
 use Rattle.vic_collection.proofs.Surveys.{certain_in, certain_somewhere, is_uid_of, its_log, no_log, positions_of, possible_in, possible_somewhere, undecided_in}
@@ -67,13 +67,13 @@ module _ (c : CollectionValue) (texts : List (List ℕ)) (says : AllZip IsSurvey
   nowhere u e p = both_ways (is_possible_somewhere c u) e ((possible u (is_uid_of texts u p)).1 p)
 
   abbrev looked : ℕ → ItemValue → Bool
-  looked u item = is_number u item.uid && (not item.away && not (is_uncounted c item.place))
+  looked u item = is_number u item.uid && (not item.away && not (is_place_without_log c item.place))
 
-  pub absent_as : HaveUids c → (u : ℕ) → IsUidIn c Missing u ↔ IsAbsent (is_looked_for c) texts u
+  pub absent_as : HaveUids c → (u : ℕ) → IsUidIn c Absent u ↔ IsAbsent (is_looked_for c) texts u
   absent_as uids u = (
     (λ w.
         let item = w.0 in
-        let m = missing_from item.away (is_certain_somewhere c u) (is_certain_at c item.place u) (is_some item.place) (is_possible_somewhere c u) (is_uncounted c item.place) (sym (ap (state_by c item) w.2) ∙ w.3) in (
+        let m = missing_from item.away (is_certain_somewhere c u) (is_certain_at c item.place u) (is_some item.place) (is_possible_somewhere c u) (is_place_without_log c item.place) (sym (ap (state_by c item) w.2) ∙ w.3) in (
           list_any-from_Any (looked u) c.catalogue.items (w.1.0, item, w.1.1, w.1.2, and_from (is_number u item.uid) _ (number_of u item.uid w.2) (and_from _ _ (ap not m.1) (ap not m.2))),
           nowhere u m.0,
         )),
@@ -86,14 +86,14 @@ module _ (c : CollectionValue) (texts : List (List ℕ)) (says : AllZip IsSurvey
         let is = uids u (list_any-from_Any (λ i. is_number u i.uid) c.catalogue.items (a.0, item, a.2, a.3, both.0)) in
         let none = false_from_ne_true (is_possible_somewhere c u) (λ p. h.1 ((possible u is).0 p)) in
         let never = false_from_ne_true (is_certain_somewhere c u) (λ k. both_ways (is_possible_somewhere c u) none (sure u k)) in
-        (item, (a.0, a.2, a.3), uid, ap (state_by c item) uid ∙ missing_to item.away (is_certain_somewhere c u) (is_certain_at c item.place u) (is_some item.place) (is_possible_somewhere c u) (is_uncounted c item.place) (certain_at_somewhere c item.place u) never none (not-true item.away stands.0) (not-true (is_uncounted c item.place) stands.1))),
+        (item, (a.0, a.2, a.3), uid, ap (state_by c item) uid ∙ missing_to item.away (is_certain_somewhere c u) (is_certain_at c item.place u) (is_some item.place) (is_possible_somewhere c u) (is_place_without_log c item.place) (certain_at_somewhere c item.place u) never none (not-true item.away stands.0) (not-true (is_place_without_log c item.place) stands.1))),
   )
 
-  pub doubtful_as : HaveUids c → (u : ℕ) → IsUidIn c NotProvable u ↔ IsDoubtful (is_of_item c) texts u
+  pub doubtful_as : HaveUids c → (u : ℕ) → IsUidIn c Doubtful u ↔ IsDoubtful (is_of_item c) texts u
   doubtful_as uids u = (
     (λ w.
         let item = w.0 in
-        let m = unproved_from item.away (is_certain_somewhere c u) (is_certain_at c item.place u) (is_some item.place) (is_possible_somewhere c u) (is_uncounted c item.place) (sym (ap (state_by c item) w.2) ∙ w.3) in
+        let m = unproved_from item.away (is_certain_somewhere c u) (is_certain_at c item.place u) (is_some item.place) (is_possible_somewhere c u) (is_place_without_log c item.place) (sym (ap (state_by c item) w.2) ∙ w.3) in
         let of = list_any-from_Any (λ i. is_number u i.uid) c.catalogue.items (w.1.0, item, w.1.1, w.1.2, number_of u item.uid w.2) in
         (of, (undecided u (uids u of)).0 (m.1, m.0))),
     (λ h.
@@ -101,10 +101,10 @@ module _ (c : CollectionValue) (texts : List (List ℕ)) (says : AllZip IsSurvey
         let item = a.1 in
         let uid = item_with u item.uid a.4 in
         let m = (undecided u (uids u h.0)).1 h.1 in
-        (item, (a.0, a.2, a.3), uid, ap (state_by c item) uid ∙ unproved_to item.away (is_certain_somewhere c u) (is_certain_at c item.place u) (is_some item.place) (is_possible_somewhere c u) (is_uncounted c item.place) (certain_at_somewhere c item.place u) m.1 m.0)),
+        (item, (a.0, a.2, a.3), uid, ap (state_by c item) uid ∙ unproved_to item.away (is_certain_somewhere c u) (is_certain_at c item.place u) (is_some item.place) (is_possible_somewhere c u) (is_place_without_log c item.place) (certain_at_somewhere c item.place u) m.1 m.0)),
   )
 
-  pub unlisted_as : (u : ℕ) → (is_unexpected c u ≡ true) ↔ IsUnlisted (is_of_item c) texts u
+  pub unlisted_as : (u : ℕ) → (is_unlisted c u ≡ true) ↔ IsUnlisted (is_of_item c) texts u
   unlisted_as u = (
     (λ h. let w = and_parts (is_certain_somewhere c u) _ h in ((certain u).0 w.0, not-true (is_of_item c u) w.1)),
     (λ h. and_from (is_certain_somewhere c u) _ ((certain u).1 h.0) (ap not h.1)),
@@ -118,7 +118,7 @@ module _ (c : CollectionValue) (texts : List (List ℕ)) (says : AllZip IsSurvey
     go true true o same = ((λ h. absurd (false≢true h)), (λ h. absurd (false≢true (sym (same.1 h.0).1))))
     go false s o same = ((λ h. absurd (false≢true h)), (λ h. absurd (false≢true (same.1 h.0).0)))
 
-  pub unsettled_as : (m : BitMask) → IsUnsettled c m ↔ against.IsUnsettled (is_of_item c) texts m
+  pub unsettled_as : (m : BitMask) → IsUnsettled c m ↔ against.IsUnsettledAgainst (is_of_item c) texts m
   unsettled_as m = (
     (λ h. (h.0, h.1, λ u is lies. (left_as u is).0 (h.2 u is lies))),
     (λ h. (h.0, h.1, λ u is lies. (left_as u is).1 (h.2 u is lies))),
@@ -132,14 +132,14 @@ module _ (c : CollectionValue) (texts : List (List ℕ)) (says : AllZip IsSurvey
       let logs = positions_of texts c.surveys says tells_nothing P (λ text s w. silent text s.field w) in
       subst (λ o. MatchOption o (All HasPossibleLog texts) (IsFirstLogWith P texts)) (sym (first_position_is tells_nothing 0 c.surveys))
       (go (slice_get (positions_from tells_nothing 0 c.surveys) 0) (first_is_least (IsLogWith P texts) (positions_from tells_nothing 0 c.surveys) logs)) where
-        silent : (text : List ℕ) (f : Field) → IsFieldOf text f → (is_not_possible f ≡ true) ↔ (HasPossibleLog text → ⊥)
+        silent : (text : List ℕ) (f : SurveyedField) → IsFieldOf text f → (is_not_possible f ≡ true) ↔ (HasPossibleLog text → ⊥)
         silent text f w = (no_log text f w, λ never. true_from_ne_false (is_not_possible f) (λ tells. never (its_log text f w tells)))
 
         go : (o : Option ℕ) → MatchOption o (NoSuch (IsLogWith (λ text. HasPossibleLog text → ⊥) texts)) (IsLeast (IsLogWith (λ text. HasPossibleLog text → ⊥) texts)) → MatchOption o (All HasPossibleLog texts) (IsFirstLogWith (λ text. HasPossibleLog text → ⊥) texts)
         go None none = λ k d lt. ⊎_elim (λ h. h) (λ never. absurd (none k (get_or texts k d, slice_get-get_or texts k d lt, never))) (possible_or_not (get_or texts k d))
         go (Some n) first = first
 
-  shown_in : (text : List ℕ) (f : Field) (shown : ShownUid) → IsFieldOf text f → IsShownBy f shown → IsShownIn shown.uid shown.line text
+  shown_in : (text : List ℕ) (f : SurveyedField) (shown : ShownUid) → IsFieldOf text f → IsShownBy f shown → IsShownIn shown.uid shown.line text
   shown_in text (Possible s) shown w among =
       (w.0, w.1, subst (λ (x : ShownUid). ShowsCertain w.0.lines x.line x.uid) among.2 (w.2.shown among.0 shown among.1))
   shown_in text (Refused n fault) shown w among = absurd among
@@ -179,11 +179,11 @@ module _ (c : CollectionValue) (texts : List (List ℕ)) (says : AllZip IsSurvey
     absent = list_as _ _ _ (absent_as uids) a.absent.uids;
     unlisted = list_as _ _ _ unlisted_as a.unlisted.uids;
     unlisted_told = λ k d lt. told_first (get_or f.unlisted.items k d) (a.unlisted.shown k d lt);
-    unsettled = mask_as (IsUnsettled c) (against.IsUnsettled (is_of_item c) texts) f.unsettled unsettled_as a.unsettled;
+    unsettled = mask_as (IsUnsettled c) (against.IsUnsettledAgainst (is_of_item c) texts) f.unsettled unsettled_as a.unsettled;
     doubtful = list_as _ _ _ (doubtful_as uids) a.doubtful.uids;
   }
 
-  pub open_masks_of : (text : List ℕ) (s : SurveyValue) (o : OpenMasks) → IsSurveyOf text s → AreOpenMasksOf c s o → against.AreOpenMasksOf texts text o
+  pub open_masks_of : (text : List ℕ) (s : SurveyValue) (o : OpenMasks) → IsSurveyOf text s → AreOpenMasksOfSurvey c s o → against.AreOpenMasksOfLog texts text o
   open_masks_of text s o w masks = record {
     set = masks.set;
     uids = λ u is. subst (λ (b : Bool). (b ≡ true) ↔ (IsPossibleIn u text × (IsCertainUid texts u → ⊥))) (sym (masks.uids u is)) (go u (is_possible_in s u) (is_certain_somewhere c u) (possible_in text s.field w u is) (certain u));

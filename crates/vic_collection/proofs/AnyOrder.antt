@@ -9,12 +9,12 @@ use Rattle.vic_frame.specs.Masks.{BitMask}
 use Rattle.vic_table.specs.Values.{ItemValue, CatalogueValue, PlaceRowValue}
 use Rattle.vic_collection.specs.declared.findings.Findings.{Findings}
 use Rattle.vic_collection.specs.declared.state.State.{State}
-use Rattle.vic_collection.specs.declared.state.State.TheVariants.{Returned, Misplaced, NotProvable, NotCounted, Missing}
+use Rattle.vic_collection.specs.declared.state.State.TheVariants.{Returned, Misplaced, Doubtful, NotCounted, Absent}
 use Rattle.vic_collection.specs.Against.{Agree}
-use Rattle.vic_collection.specs.Collections.{CollectionValue, is_certain_in, is_certain_somewhere, is_possible_in, is_possible_somewhere, is_unexpected, tells_nothing}
+use Rattle.vic_collection.specs.Collections.{CollectionValue, is_certain_in, is_certain_somewhere, is_possible_in, is_possible_somewhere, is_unlisted, tells_nothing}
 use Rattle.vic_collection.specs.Findings.{AreFindings, IsUidIn, IsUnsettled, count_there, is_left_open}
 use Rattle.vic_collection.specs.Joins.{each_once, is_asked_for, is_of_place, is_without_log, places_asked_for, places_without_log}
-use Rattle.vic_collection.specs.States.{is_certain_at, is_there, is_uncounted, state_by, state_of, state_with}
+use Rattle.vic_collection.specs.States.{is_certain_at, is_there, is_place_without_log, state_by, state_of, state_with}
 use Rattle.vic_collection.proofs.Agreeing.{same_first, same_list}
 use Rattle.vic_collection.proofs.Without.{filter_same}
 
@@ -42,12 +42,12 @@ module _ (catalogue : CatalogueValue) (rows : Option (List PlaceRowValue)) (surv
   at None u = refl
   at (Some place) u = list_any-IsPermutation (λ s. is_of_place one place s && is_certain_in s u) surveys others same
 
-  uncounted : (place : Option (List ℕ)) → is_uncounted one place ≡ is_uncounted other place
-  uncounted None = refl
-  uncounted (Some place) = ap (λ (b : Bool). is_asked_for one place && not b) (list_any-IsPermutation (is_of_place one place) surveys others same)
+  place_without_log : (place : Option (List ℕ)) → is_place_without_log one place ≡ is_place_without_log other place
+  place_without_log None = refl
+  place_without_log (Some place) = ap (λ (b : Bool). is_asked_for one place && not b) (list_any-IsPermutation (is_of_place one place) surveys others same)
 
   with_uid : (item : ItemValue) (u : ℕ) → state_with one item u ≡ state_with other item u
-  with_uid item u = rw (certain u, at item.place u, possible u, uncounted item.place) refl
+  with_uid item u = rw (certain u, at item.place u, possible u, place_without_log item.place) refl
 
   by_uid : (item : ItemValue) (uid : Option ℕ) → state_by one item uid ≡ state_by other item uid
   by_uid item None = refl
@@ -58,8 +58,8 @@ module _ (catalogue : CatalogueValue) (rows : Option (List PlaceRowValue)) (surv
   uid_in : (state : State) (u : ℕ) → IsUidIn one state u ↔ IsUidIn other state u
   uid_in state u = ((λ w. (w.0, w.1, w.2, sym (by_uid w.0 w.0.uid) ∙ w.3)), (λ w. (w.0, w.1, w.2, by_uid w.0 w.0.uid ∙ w.3)))
 
-  unexpected : (u : ℕ) → (is_unexpected one u ≡ true) ↔ (is_unexpected other u ≡ true)
-  unexpected u = rw (certain u) ((λ h. h), (λ h. h))
+  unlisted_same : (u : ℕ) → (is_unlisted one u ≡ true) ↔ (is_unlisted other u ≡ true)
+  unlisted_same u = rw (certain u) ((λ h. h), (λ h. h))
 
   left_open : (u : ℕ) → is_left_open one u ≡ is_left_open other u
   left_open u = rw (certain u, possible u) refl
@@ -68,7 +68,7 @@ module _ (catalogue : CatalogueValue) (rows : Option (List PlaceRowValue)) (surv
   unsettled m = ((λ h. (h.0, h.1, λ u is lies. sym (left_open u) ∙ h.2 u is lies)), (λ h. (h.0, h.1, λ u is lies. left_open u ∙ h.2 u is lies)))
 
   without_log : places_without_log one ≡ places_without_log other
-  without_log = filter_same (is_without_log one) (is_without_log other) (each_once (places_asked_for one)) (λ k d lt. uncounted (Some (get_or (each_once (places_asked_for one)) k d)))
+  without_log = filter_same (is_without_log one) (is_without_log other) (each_once (places_asked_for one)) (λ k d lt. place_without_log (Some (get_or (each_once (places_asked_for one)) k d)))
 
   counted : count_there one ≡ count_there other
   counted = sym (length-filter (λ item. is_there (state_of one item)) catalogue.items) ∙ (ap length (filter_same (λ item. is_there (state_of one item)) (λ item. is_there (state_of other item)) catalogue.items (λ k d lt. let item = get_or catalogue.items k d in ap is_there (by_uid item item.uid))) ∙ length-filter (λ item. is_there (state_of other item)) catalogue.items)
@@ -79,10 +79,10 @@ module _ (catalogue : CatalogueValue) (rows : Option (List PlaceRowValue)) (surv
   agree : (f g : Findings) → AreFindings one f → AreFindings other g → Agree f g
   agree f g a b = record {
     not_possible = ap is_some (a.not_possible ∙ position_from-zero tells_nothing surveys) ∙ (silent ∙ ap is_some (sym (b.not_possible ∙ position_from-zero tells_nothing others)));
-    absent = same_list _ _ _ _ (uid_in Missing) a.absent.uids b.absent.uids;
-    unlisted = same_list _ _ _ _ unexpected a.unlisted.uids b.unlisted.uids;
+    absent = same_list _ _ _ _ (uid_in Absent) a.absent.uids b.absent.uids;
+    unlisted = same_list _ _ _ _ unlisted_same a.unlisted.uids b.unlisted.uids;
     unsettled = same_first _ _ _ _ unsettled a.unsettled b.unsettled;
-    doubtful = same_list _ _ _ _ (uid_in NotProvable) a.doubtful.uids b.doubtful.uids;
+    doubtful = same_list _ _ _ _ (uid_in Doubtful) a.doubtful.uids b.doubtful.uids;
     misplaced = same_list _ _ _ _ (uid_in Misplaced) a.misplaced.uids b.misplaced.uids;
     returned = same_list _ _ _ _ (uid_in Returned) a.returned.uids b.returned.uids;
     not_counted = same_list _ _ _ _ (uid_in NotCounted) a.not_counted.uids b.not_counted.uids;

@@ -8,14 +8,14 @@ use Rattle.vic_verdict.proofs.Masks.{mask_of, mask_of-alone, mask_of-value}
 use Rattle.vic_table.specs.Values.{ItemValue}
 use Rattle.vic_collection.specs.declared.answer.CollectionAnswer.TheVariants as answer
 use Rattle.vic_collection.specs.declared.state.State.{State}
-use Rattle.vic_collection.specs.declared.state.State.TheVariants.{Returned, Misplaced, NotProvable, NotCounted, Missing}
+use Rattle.vic_collection.specs.declared.state.State.TheVariants.{Returned, Misplaced, Doubtful, NotCounted, Absent}
 use Rattle.vic_collection.specs.Against.{IsFirstLogWith}
 use Rattle.vic_collection.specs.Answers.{IsAnswer}
 use Rattle.vic_collection.specs.Collections.{CollectionValue, is_certain_in, is_certain_somewhere, is_number, is_of_item, is_possible_somewhere, tells_nothing}
 use Rattle.vic_collection.specs.Complete.{IsComplete, IsExpected, IsInPlace}
 use Rattle.vic_collection.specs.Findings.{is_left_open}
 use Rattle.vic_collection.specs.Joins.{is_expected, is_of_place}
-use Rattle.vic_collection.specs.States.{is_certain_at, is_there, is_uncounted, state_by, state_of}
+use Rattle.vic_collection.specs.States.{is_certain_at, is_there, is_place_without_log, state_by, state_of}
 use Rattle.vic_collection.proofs.Against.{certain, first_silent, possible}
 use Rattle.vic_collection.proofs.Families.{beside_back, some_family}
 use Rattle.vic_collection.proofs.Items.{certain_at_somewhere, item_with, state_if}
@@ -25,7 +25,7 @@ use Rattle.vic_collection.proofs.Without.{filter_same}
 -- ---- of one item
 
 state_cases : (a s t p q n : Bool) → (t ≡ true → s ≡ true) → (st : State) → st ≡ state_if a s t p q n
-    → (st ≡ Returned → ⊥) → (st ≡ Misplaced → ⊥) → (st ≡ NotProvable → ⊥) → (st ≡ NotCounted → ⊥) → (st ≡ Missing → ⊥)
+    → (st ≡ Returned → ⊥) → (st ≡ Misplaced → ⊥) → (st ≡ Doubtful → ⊥) → (st ≡ NotCounted → ⊥) → (st ≡ Absent → ⊥)
     → ((a ≡ false) × (s ≡ true) × (p ≡ true → t ≡ true) × (is_there st ≡ true)) ⊎ ((a ≡ true) × (s ≡ false) × (q ≡ false) × (is_there st ≡ false))
 state_cases true true t p q n f st e r m v c x = absurd (r e)
 state_cases true false true p q n f st e r m v c x = absurd (false≢true (f refl))
@@ -56,7 +56,7 @@ module _ (c : CollectionValue) (texts : List (List ℕ)) (count : ℕ) (says : A
       ⊎ ((item.away ≡ true) × (is_certain_somewhere c u ≡ false) × (is_possible_somewhere c u ≡ false) × (is_there (state_of c item) ≡ false))
   item_told item u among uid =
       let before = answer.0.0.0 in
-      state_cases item.away (is_certain_somewhere c u) (is_certain_at c item.place u) (is_some item.place) (is_possible_somewhere c u) (is_uncounted c item.place) (certain_at_somewhere c item.place u) (state_of c item) (ap (state_by c item) uid)
+      state_cases item.away (is_certain_somewhere c u) (is_certain_at c item.place u) (is_some item.place) (is_possible_somewhere c u) (is_place_without_log c item.place) (certain_at_somewhere c item.place u) (state_of c item) (ap (state_by c item) uid)
       (λ e. before.0.1 u (item, among, uid, e)) (λ e. before.0.0.1 u (item, among, uid, e)) (λ e. before.0.0.0.1 u (item, among, uid, e)) (λ e. before.1 u (item, among, uid, e)) (λ e. before.0.0.0.0.0.0.1 u (item, among, uid, e))
 
   item_of : (u : ℕ) → is_of_item c u ≡ true → (item : ItemValue) × Contains c.catalogue.items item × (item.uid ≡ Some u)
@@ -64,8 +64,8 @@ module _ (c : CollectionValue) (texts : List (List ℕ)) (count : ℕ) (says : A
       let a = Any-from_list_any (λ item. is_number u item.uid) c.catalogue.items h in
       (a.1, (a.0, a.2, a.3), item_with u a.1.uid a.4)
 
-  away_unexpected : (item : ItemValue) (u : ℕ) → item.uid ≡ Some u → item.away ≡ true → is_expected item ≡ true → ⊥
-  away_unexpected item u uid away expected = both_ways (is_expected item) (rw (uid, away) refl) expected
+  away_not_expected : (item : ItemValue) (u : ℕ) → item.uid ≡ Some u → item.away ≡ true → is_expected item ≡ true → ⊥
+  away_not_expected item u uid away expected = both_ways (is_expected item) (rw (uid, away) refl) expected
 
   expected_of : (family : List (List ℕ)) → FitsTexts family texts → (u : ℕ) → is_somewhere family u ≡ true → IsExpected c u
   expected_of family fits u h =
@@ -86,7 +86,7 @@ module _ (c : CollectionValue) (texts : List (List ℕ)) (count : ℕ) (says : A
   somewhere_of : (family : List (List ℕ)) → FitsTexts family texts → (u : ℕ) → IsExpected c u → is_somewhere family u ≡ true
   somewhere_of family fits u e = elim (item_told e.item u e.there e.uid) [
     | inl t ↦ (certain c texts says u).0 t.1 family fits
-    | inr t ↦ absurd (away_unexpected e.item u e.uid t.0 e.expected)
+    | inr t ↦ absurd (away_not_expected e.item u e.uid t.0 e.expected)
   ]
 
   in_its_place : (family : List (List ℕ)) → FitsTexts family texts → (item : ItemValue) (place : List ℕ) (u : ℕ) → Contains c.catalogue.items item → is_expected item ≡ true → item.place ≡ Some place → item.uid ≡ Some u → IsInPlace c family place u
@@ -99,7 +99,7 @@ module _ (c : CollectionValue) (texts : List (List ℕ)) (count : ℕ) (says : A
         let text = beside_back IsSurveyOf texts c.surveys at.0 at.1 says here in
         let p = beside_back MayHaveBeen family texts at.0 text.0 fits text.1 in
         record { position = at.0; survey = at.1; population = p.0; its_log = here; its_population = p.1; of_place = both.0; there = (certain_in text.0 at.1.field text.2 u).0 both.1 p.0 p.2 }
-    | inr t ↦ absurd (away_unexpected item u uid t.0 expected)
+    | inr t ↦ absurd (away_not_expected item u uid t.0 expected)
   ]
 
   same_count : (item : ItemValue) → Contains c.catalogue.items item → (o : Option ℕ) → item.uid ≡ o → is_there (state_of c item) ≡ is_expected item

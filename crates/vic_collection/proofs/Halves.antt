@@ -1,15 +1,9 @@
 -- The logs in which UIDs are possible and not certain, by the halves of the logs.
 use Rattle.vic_collection.proofs.Telling.{some_position}
 use Rattle.vic_collection.proofs.Words.{not, get_or, slice_get-get_or, SurveyValue, suc, zero, slice_get, slice_get_within, ◌≡◌, ℕ, ◌+◌, ◌<◌, List, [], ◌∷◌, ◌++◌, Bool, true, false, ◌&&◌, ◌||◌, cond, Some, refl, sym, ap, ◌∙◌, arith, nat_eq, length, map, list_any, has, eqb-true, false≢true, nat_tests, or-false}
-use Rattle.std.specs.BTreeMap.{BTreeMap, is_at}
 use Rattle.std.specs.List.{filter}
-use Rattle.std.specs.Map.{lookup}
-use Rattle.std.specs.Ordering.{nat_cmp}
-use Rattle.std.specs.Option.{option_map_or}
-use Rattle.std.specs.declared.vec.Vec.{Vec}
 use Rattle.vic_tree.specs.Ranges.{is_open_in}
-use Rattle.vic_collection.specs.Collections.{logs_in, positions_from}
-use Rattle.vic_collection.specs.inner.Told.{logs_at}
+use Rattle.vic_collection.specs.Collections.{positions_from}
 
 -- ---- positions
 
@@ -89,22 +83,6 @@ noted_both front back from us u = rw (positions_from-append (λ set. is_open_in 
   go : (b : Bool) → cond b (positions_from (λ set. is_open_in set u) from front) [] ++ cond b (positions_from (λ set. is_open_in set u) (from + length front) back) [] ≡ cond b (positions_from (λ set. is_open_in set u) from front ++ positions_from (λ set. is_open_in set u) (from + length front) back) []
   go true = refl
   go false = refl
-
--- ---- what is kept
-
-pub at_same : (a b : ℕ) → is_at (nat_cmp a) b ≡ nat_eq a b
-at_same a b = grind (arith, nat_tests)
-
-module _ {A : Type 0} where
-  of_entries : (entries : List (ℕ × Vec ℕ A)) (u : ℕ) → logs_in (map (λ e. (e.0, e.1.items)) entries) u ≡ option_map_or (λ logs. logs.items) (lookup (is_at (nat_cmp u)) entries) []
-  of_entries [] u = refl
-  of_entries (e ∷ entries) u = rw (at_same u e.0, of_entries entries u) (step (nat_eq u e.0)) where
-    step : (b : Bool) → cond b e.1.items (option_map_or (λ logs. logs.items) (lookup (is_at (nat_cmp u)) entries) []) ≡ option_map_or (λ logs. logs.items) (cond b (Some e.1) (lookup (is_at (nat_cmp u)) entries)) []
-    step true = refl
-    step false = refl
-
-  pub logs_in-entries : (m : BTreeMap ℕ (Vec ℕ A)) (u : ℕ) → logs_in (map (λ e. (e.0, e.1.items)) m.entries) u ≡ logs_at m u
-  logs_in-entries m u = of_entries m.entries u
 
 -- ---- what is at a position
 

@@ -1,7 +1,7 @@
 -- The state of one item, by what the logs say of its UID.
 use Rattle.vic_collection.proofs.Words.{◌≡◌, ℕ, List, [], ◌∷◌, Bool, true, false, ◌&&◌, ◌||◌, cond, Some, None, Option, refl, sym, ap, ◌∙◌, eqb-true, eq-eqb, false≢true, list_any, SurveyValue}
 use Rattle.vic_collection.specs.declared.state.State.{State}
-use Rattle.vic_collection.specs.declared.state.State.TheVariants.{Returned, InPlace, Misplaced, There, NotProvable, Away, NotCounted, Missing}
+use Rattle.vic_collection.specs.declared.state.State.TheVariants.{Returned, InPlace, Misplaced, There, Doubtful, Away, NotCounted, Absent}
 use Rattle.vic_collection.specs.Collections.{CollectionValue, is_certain_in, is_certain_somewhere, is_number}
 use Rattle.vic_collection.specs.Joins.{is_of_place}
 use Rattle.vic_collection.specs.States.{is_certain_at}
@@ -32,9 +32,9 @@ certain_at_somewhere c (Some place) u h = any_second (is_of_place c place) (λ s
 -- ---- its state: whether it is away, certain, certain in its place, of a place, possible, and its place without a log
 
 abbrev pub state_if : (a s t p q n : Bool) → State
-state_if a s t p q n = cond (a && s) Returned (cond t InPlace (cond (p && s) Misplaced (cond s There (cond q NotProvable (cond a Away (cond n NotCounted Missing))))))
+state_if a s t p q n = cond (a && s) Returned (cond t InPlace (cond (p && s) Misplaced (cond s There (cond q Doubtful (cond a Away (cond n NotCounted Absent))))))
 
-pub missing_from : (a s t p q n : Bool) → state_if a s t p q n ≡ Missing → (q ≡ false) × (a ≡ false) × (n ≡ false)
+pub missing_from : (a s t p q n : Bool) → state_if a s t p q n ≡ Absent → (q ≡ false) × (a ≡ false) × (n ≡ false)
 missing_from true true t p q n e = absurd cc
 missing_from true false true p q n e = absurd cc
 missing_from true false false true true n e = absurd cc
@@ -50,12 +50,12 @@ missing_from false false false true false true e = absurd cc
 missing_from false false false false false true e = absurd cc
 missing_from false false false p false false e = (refl, refl, refl)
 
-pub missing_to : (a s t p q n : Bool) → (t ≡ true → s ≡ true) → s ≡ false → q ≡ false → a ≡ false → n ≡ false → state_if a s t p q n ≡ Missing
+pub missing_to : (a s t p q n : Bool) → (t ≡ true → s ≡ true) → s ≡ false → q ≡ false → a ≡ false → n ≡ false → state_if a s t p q n ≡ Absent
 missing_to a s true p q n in_some never none here counted = absurd (false≢true (sym never ∙ in_some refl))
 missing_to a s false true q n in_some never none here counted = rw (never, none, here, counted) refl
 missing_to a s false false q n in_some never none here counted = rw (never, none, here, counted) refl
 
-pub unproved_from : (a s t p q n : Bool) → state_if a s t p q n ≡ NotProvable → (s ≡ false) × (q ≡ true)
+pub unproved_from : (a s t p q n : Bool) → state_if a s t p q n ≡ Doubtful → (s ≡ false) × (q ≡ true)
 unproved_from true true t p q n e = absurd cc
 unproved_from true false true p q n e = absurd cc
 unproved_from true false false p true n e = (refl, refl)
@@ -70,7 +70,7 @@ unproved_from false false false true false false e = absurd cc
 unproved_from false false false false false true e = absurd cc
 unproved_from false false false false false false e = absurd cc
 
-pub unproved_to : (a s t p q n : Bool) → (t ≡ true → s ≡ true) → s ≡ false → q ≡ true → state_if a s t p q n ≡ NotProvable
+pub unproved_to : (a s t p q n : Bool) → (t ≡ true → s ≡ true) → s ≡ false → q ≡ true → state_if a s t p q n ≡ Doubtful
 unproved_to a s true p q n in_some never may = absurd (false≢true (sym never ∙ in_some refl))
 unproved_to true s false true q n in_some never may = rw (never, may) refl
 unproved_to true s false false q n in_some never may = rw (never, may) refl

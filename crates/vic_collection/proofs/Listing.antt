@@ -1,26 +1,25 @@
 -- The first of rising UIDs, and lists of items by their UIDs.
-use Rattle.vic_collection.proofs.Words.{suc, zero, ◌≡◌, ℕ, ◌+◌, ◌<◌, ◌≤◌, List, [], ◌∷◌, Bool, true, false, ◌||◌, cond, Option, Some, None, refl, sym, ap, ◌∙◌, subst, arith, nat_eq, length, map, get_or, slice_get, slice_get-get_or, slice_get_within, get_or_from_slice_get, has, place_of, IsStrictlyIncreasing, AllPairs-from_increasing, is_some, eqb-true, both_ways, false≢true, cases_lt, inl, inr, eq-eqb}
+use Rattle.vic_collection.proofs.Words.{suc, zero, ◌≡◌, ℕ, ◌+◌, ◌<◌, ◌≤◌, List, [], ◌∷◌, ◌++◌, list_any-append, map_push, Bool, true, false, ◌||◌, cond, Some, None, refl, sym, ap, ◌∙◌, subst, arith, nat_eq, length, map, get_or, slice_get, slice_get-get_or, slice_get_within, get_or_from_slice_get, has, place_of, IsStrictlyIncreasing, AllPairs-from_increasing, both_ways, false≢true, cases_lt, inl, inr, eq-eqb}
 use denote.Enum.Bare.{sameb}
-use Rattle.std.specs.Prelude.{Result, Ok, Err, IfOk}
-use Rattle.std.proofs.Common.{is_eq}
-use Rattle.std.specs.Ordering.{eq_by_cmp}
-use Rattle.std.specs.Set.{is_member}
-use Rattle.std.specs.List.{All}
 use Rattle.std.specs.Option.{option_map}
-use Rattle.std.proofs.lemmas.List.Elements.{All-weaker}
 use Rattle.std.proofs.lemmas.Option.{slice_get-map}
 use Rattle.vic_collection.specs.declared.found_items.FoundItem.{FoundItem}
 use Rattle.vic_collection.specs.Collections.{CollectionValue}
 use Rattle.vic_collection.specs.Findings.{AreFoundIn, IsFoundIn, IsUidIn}
 use Rattle.vic_collection.specs.States.{state_of}
-use Rattle.std.specs.BTreeMap.{BTreeMap, get, is_at}
 use Rattle.std.specs.Ordering.{nat_cmp}
+use Rattle.std.specs.List.{All, Contains, dedup, dedup_from}
+use Rattle.std.specs.List.Sorted.{IsPermutation, IsSortedByKey}
+use Rattle.std.proofs.lemmas.List.Elements.{All-contains, All-push, All-weaker, Contains-get_or}
+use Rattle.std.proofs.lemmas.List.Kept.{Contains-from_dedup}
+use Rattle.std.proofs.lemmas.List.Sorted.{Contains-permutation, IsPermutation-map, IsPermutation-sym, list_any-IsPermutation}
+use Rattle.std.proofs.lemmas.Map.Keys.{IsStrictlyIncreasing-dedup}
+use Rattle.vic_tree.proofs.GatheringLaws.{has_dedup}
 use Rattle.vic_table.specs.Values.{ItemValue}
 use Rattle.vic_collection.specs.contracts.state.State.{the_type}
 use Rattle.vic_collection.specs.declared.state.State.{State}
-use Rattle.vic_collection.specs.declared.state.State.TheVariants.{NoTag, Returned, InPlace, Misplaced, There, NotProvable, Away, NotCounted, Missing}
+use Rattle.vic_collection.specs.declared.state.State.TheVariants.{NoTag, Returned, InPlace, Misplaced, There, Doubtful, Away, NotCounted, Absent}
 use Rattle.vic_collection.specs.inner.FoundItems.{AreAllIn}
-use Rattle.vic_collection.proofs.Halves.{at_same}
 use Rattle.std.proofs.lemmas.List.{get_or-map, length-map}
 use Rattle.vic_report.specs.Findings.{uids_of}
 use Rattle.vic_report.specs.declared.shown.ShownUid.{ShownUid}
@@ -77,36 +76,37 @@ found_at (s ∷ shown) uid r rising among before ahead =
 
 -- ---- items by their UIDs
 
-module _ (items : List ItemValue) (states : List State) (state : State) (i : ℕ) (old : BTreeMap ℕ ℕ) (kept : AreAllIn items states state i old) where
-  pub one_more : (item : ItemValue) (u : ℕ) (new : BTreeMap ℕ ℕ) → slice_get items i ≡ Some item → item.uid ≡ Some u → slice_get states i ≡ Some state → ((q : ℕ) → get nat_cmp new q ≡ cond (is_at (nat_cmp u) q) (Some i) (get nat_cmp old q))
-      → AreAllIn items states state (i + 1) new
-  one_more item u new at uid is put = record {
-    found = λ q k got. known (nat_eq u q) q k refl (sym (put q ∙ ap (λ (b : Bool). cond b (Some i) (get nat_cmp old q)) (at_same u q)) ∙ got);
-    all = λ k other q lt there named stands. elim (cases_lt k i) [
-      | inl below ↦ stays (nat_eq u q) q (put q ∙ ap (λ (b : Bool). cond b (Some i) (get nat_cmp old q)) (at_same u q)) (kept.all k other q below there named stands)
+abbrev pub uid_of : FoundItem → ℕ
+uid_of f = f.uid
+
+module _ (c : CollectionValue) (state : State) (i : ℕ) (found : List FoundItem) (kept : AreAllIn c state i found) where
+  pub one_more : (item : ItemValue) (u : ℕ) → slice_get c.catalogue.items i ≡ Some item → item.uid ≡ Some u → state_of c item ≡ state → AreAllIn c state (i + 1) (found ++ record { uid = u; item = i } ∷ [])
+  one_more item u at uid is = record {
+    each = All-push (IsFoundIn c state) found _ kept.each (item, at, uid, is);
+    all = λ k other q lt there named stands. more q ∙ elim (cases_lt k i) [
+      | inl below ↦ rw (kept.all k other q below there named stands) refl
       | inr above ↦
           let last : k ≡ i = omega arith in
           let one : other ≡ item = cc (there, at, last) in
-          let same : u ≡ q = cc (uid, named, one) in
-          ap is_some (put q ∙ ap (λ (b : Bool). cond b (Some i) (get nat_cmp old q)) (at_same u q ∙ eq-eqb u q same))
+          let same : q ≡ u = cc (uid, named, one) in
+          rw (eq-eqb q u same) (either (has (map uid_of found) q))
     ];
   }
     where
-      known : (b : Bool) (q k : ℕ) → nat_eq u q ≡ b → cond b (Some i) (get nat_cmp old q) ≡ Some k → (t : ItemValue) × (slice_get items k ≡ Some t) × (t.uid ≡ Some q) × (slice_get states k ≡ Some state)
-      known true q k e got = let here : i ≡ k = cc in let same : u ≡ q = eqb-true u q e in (item, ap (slice_get items) (sym here) ∙ at, uid ∙ ap Some same, ap (slice_get states) (sym here) ∙ is)
-      known false q k e got = kept.found q k got
+      more : (q : ℕ) → has (map uid_of (found ++ record { uid = u; item = i } ∷ [])) q ≡ (has (map uid_of found) q || (nat_eq q u || false))
+      more q = ap (λ us. has us q) (map_push uid_of found (record { uid = u; item = i })) ∙ list_any-append (nat_eq q) (map uid_of found) (u ∷ [])
 
-      stays : (b : Bool) (q : ℕ) → get nat_cmp new q ≡ cond b (Some i) (get nat_cmp old q) → is_some (get nat_cmp old q) ≡ true → is_some (get nat_cmp new q) ≡ true
-      stays true q e some = ap is_some e
-      stays false q e some = ap is_some e ∙ some
+      either : (b : Bool) → (b || (true || false)) ≡ true
+      either true = refl
+      either false = refl
 
   -- an item without a UID, or in another state
-  pub none_more : ((item : ItemValue) (u : ℕ) → slice_get items i ≡ Some item → item.uid ≡ Some u → slice_get states i ≡ Some state → ⊥) → AreAllIn items states state (i + 1) old
+  pub none_more : ((item : ItemValue) (u : ℕ) → slice_get c.catalogue.items i ≡ Some item → item.uid ≡ Some u → state_of c item ≡ state → ⊥) → AreAllIn c state (i + 1) found
   none_more never = record {
-    found = kept.found;
+    each = kept.each;
     all = λ k other q lt there named stands. elim (cases_lt k i) [
       | inl below ↦ kept.all k other q below there named stands
-      | inr above ↦ let last : k ≡ i = omega arith in absurd (never other q (ap (slice_get items) (sym last) ∙ there) named (ap (slice_get states) (sym last) ∙ stands))
+      | inr above ↦ let last : k ≡ i = omega arith in absurd (never other q (ap (slice_get c.catalogue.items) (sym last) ∙ there) named stands)
     ];
   }
 
@@ -116,50 +116,63 @@ same_state Returned = refl
 same_state InPlace = refl
 same_state Misplaced = refl
 same_state There = refl
-same_state NotProvable = refl
+same_state Doubtful = refl
 same_state Away = refl
 same_state NotCounted = refl
-same_state Missing = refl
+same_state Absent = refl
 
 pub other_state : (s t : State) → sameb the_type s t ≡ false → s ≡ t → ⊥
 other_state s t other same = both_ways (sameb the_type s t) other (ap (sameb the_type s) (sym same) ∙ same_state s)
 
-pub found_in : (c : CollectionValue) (state : State) (states : List State) (kept : BTreeMap ℕ ℕ) (found : List FoundItem) → states ≡ map (state_of c) c.catalogue.items → AreAllIn c.catalogue.items states state (length c.catalogue.items) kept
-    → IsStrictlyIncreasing (map (λ (f : FoundItem). f.uid) found) → ((u : ℕ) → has (map (λ (f : FoundItem). f.uid) found) u ≡ is_some (get nat_cmp kept u)) → All (λ (f : FoundItem). get nat_cmp kept f.uid ≡ Some f.item) found → AreFoundIn c state found
-found_in c state states kept found all_states all rising members items = record {
-  uids = record { rising = rising; members = λ u. (λ h. there u (get nat_cmp kept u) refl (sym (members u) ∙ h), λ w. members u ∙ back u w) };
-  items = All-weaker (λ (f : FoundItem). get nat_cmp kept f.uid ≡ Some f.item) (IsFoundIn c state) (λ f got. let w = all.found f.uid f.item got in (w.0, w.1, w.2, state_at f.item w.0 w.1 w.3)) found items;
+pub found_in : (c : CollectionValue) (state : State) (all once : List FoundItem) → AreAllIn c state (length c.catalogue.items) all → IsStrictlyIncreasing (map uid_of once) → ((u : ℕ) → has (map uid_of once) u ≡ has (map uid_of all) u) → All (Contains all) once → AreFoundIn c state once
+found_in c state all once kept rising members items = record {
+  uids = record { rising = rising; members = λ u. (λ h. there u (sym (members u) ∙ h), λ w. members u ∙ back u w) };
+  items = All-weaker (Contains all) (IsFoundIn c state) (λ f among. All-contains (IsFoundIn c state) all f kept.each among) once items;
 }
   where
-    state_at : (k : ℕ) (item : ItemValue) → slice_get c.catalogue.items k ≡ Some item → slice_get states k ≡ Some state → state_of c item ≡ state
-    state_at k item at stands = let mapped : slice_get states k ≡ Some (state_of c item) = ap (λ l. slice_get l k) all_states ∙ (slice_get-map (state_of c) c.catalogue.items k ∙ ap (option_map (state_of c)) at) in cc (mapped, stands)
+    there : (u : ℕ) → has (map uid_of all) u ≡ true → IsUidIn c state u
+    there u h =
+        let p = place_of (map uid_of all) u 0 h in
+        let within : p.0 < length all = omega (arith, p.1, length-map all uid_of) in
+        let none : FoundItem = record { uid = 0; item = 0 } in
+        let named : (get_or all p.0 none).uid ≡ u = sym (get_or-map uid_of all p.0 none 0 within) ∙ p.2 in
+        let w = kept.each p.0 none within in
+        let k = (get_or all p.0 none).item in
+        (w.0, (k, slice_get_within c.catalogue.items k w.0 w.1, get_or_from_slice_get c.catalogue.items k w.0 w.0 w.1), w.2 ∙ ap Some named, w.3)
 
-    there : (u : ℕ) (o : Option ℕ) → get nat_cmp kept u ≡ o → is_some (get nat_cmp kept u) ≡ true → IsUidIn c state u
-    there u None e some = absurd (false≢true (ap is_some (sym e) ∙ some))
-    there u (Some k) e some =
-        let w = all.found u k e in
-        (w.0, (k, slice_get_within c.catalogue.items k w.0 w.1, get_or_from_slice_get c.catalogue.items k w.0 w.0 w.1), w.2, state_at k w.0 w.1 w.3)
-
-    back : (u : ℕ) → IsUidIn c state u → is_some (get nat_cmp kept u) ≡ true
+    back : (u : ℕ) → IsUidIn c state u → has (map uid_of all) u ≡ true
     back u w =
-        let k = w.1.0 in
-        let at : slice_get c.catalogue.items k ≡ Some w.0 = slice_get-get_or c.catalogue.items k w.0 w.1.1 ∙ ap Some w.1.2 in
-        let stands : slice_get states k ≡ Some state = ap (λ l. slice_get l k) all_states ∙ (slice_get-map (state_of c) c.catalogue.items k ∙ (ap (option_map (state_of c)) at ∙ ap Some w.3)) in
-        all.all k w.0 u w.1.1 at w.2 stands
+        let at : slice_get c.catalogue.items w.1.0 ≡ Some w.0 = slice_get-get_or c.catalogue.items w.1.0 w.0 w.1.1 ∙ ap Some w.1.2 in
+        kept.all w.1.0 w.0 u w.1.1 at w.2 w.3
 
--- ---- the keys of a map
+-- ---- one item for each UID
 
-same_test : (u x : ℕ) → nat_eq u x ≡ is_eq (nat_cmp u x)
-same_test u x = sym (at_same u x)
+abbrev pub same_uid : FoundItem → FoundItem → Bool
+same_uid x y = nat_eq x.uid y.uid
 
-pub has_member : (ks : List ℕ) (u : ℕ) → has ks u ≡ is_member (eq_by_cmp nat_cmp) ks u
-has_member [] u = refl
-has_member (k ∷ ks) u = ap (λ (b : Bool). b || has ks u) (same_test u k) ∙ ap (λ (b : Bool). is_eq (nat_cmp u k) || b) (has_member ks u)
+uids_from : (k : FoundItem) (xs : List FoundItem) → map uid_of (dedup_from same_uid k xs) ≡ dedup_from nat_eq k.uid (map uid_of xs)
+uids_from k [] = refl
+uids_from k (x ∷ xs) = go (nat_eq x.uid k.uid) (uids_from k xs) (uids_from x xs) where
+  go : (b : Bool) → map uid_of (dedup_from same_uid k xs) ≡ dedup_from nat_eq k.uid (map uid_of xs) → map uid_of (dedup_from same_uid x xs) ≡ dedup_from nat_eq x.uid (map uid_of xs) → map uid_of (cond b (dedup_from same_uid k xs) (k ∷ dedup_from same_uid x xs)) ≡ cond b (dedup_from nat_eq k.uid (map uid_of xs)) (k.uid ∷ dedup_from nat_eq x.uid (map uid_of xs))
+  go true same rest = same
+  go false same rest = ap (λ us. k.uid ∷ us) rest
 
--- three facts of what was returned
-pub from_three : {X E : Type 0} (r : Result X E) (P Q R S : X → Type 0) → ((x : X) → P x → Q x → R x → S x) → IfOk r P → IfOk r Q → IfOk r R → IfOk r S
-from_three (Ok x) P Q R S f p q t = f x p q t
-from_three (Err e) P Q R S f p q t = tt
+uids_once : (xs : List FoundItem) → map uid_of (dedup same_uid xs) ≡ dedup nat_eq (map uid_of xs)
+uids_once [] = refl
+uids_once (x ∷ xs) = uids_from x xs
+
+module _ (found sorted : List FoundItem) (order : IsPermutation found sorted) where
+  pub once_rising : IsSortedByKey uid_of nat_cmp sorted → IsStrictlyIncreasing (map uid_of (dedup same_uid sorted))
+  once_rising rises = subst IsStrictlyIncreasing (sym (uids_once sorted)) (IsStrictlyIncreasing-dedup (map uid_of sorted) (λ k d low lt.
+      let none : FoundItem = record { uid = d; item = 0 } in
+      let within : k + 1 < length sorted = omega (arith, lt, length-map sorted uid_of) in
+      rw (get_or-map uid_of sorted (k + 1) none d within, get_or-map uid_of sorted k none d (omega arith)) (rises k none low within)))
+
+  pub once_members : (u : ℕ) → has (map uid_of (dedup same_uid sorted)) u ≡ has (map uid_of found) u
+  once_members u = ap (λ us. has us u) (uids_once sorted) ∙ (has_dedup (map uid_of sorted) u ∙ sym (list_any-IsPermutation (nat_eq u) _ _ (IsPermutation-map uid_of found sorted order)))
+
+  pub once_items : All (Contains found) (dedup same_uid sorted)
+  once_items k d lt = Contains-permutation sorted found _ (IsPermutation-sym found sorted order) (Contains-from_dedup same_uid sorted _ (Contains-get_or (dedup same_uid sorted) k d lt))
 
 -- ---- the first of a list, or none
 

@@ -16,12 +16,12 @@ use Rattle.vic_verdict.proofs.Masks.{IsUid-in, lies_in-uid_in, uid_in}
 use Rattle.vic_collection.specs.declared.findings.Findings.{Findings}
 use Rattle.vic_collection.specs.declared.found_items.FoundItem.{FoundItem}
 use Rattle.vic_collection.specs.declared.state.State.{State}
-use Rattle.vic_collection.specs.declared.state.State.TheVariants.{Returned, Misplaced, There, NotProvable, NotCounted, Missing}
+use Rattle.vic_collection.specs.declared.state.State.TheVariants.{Returned, Misplaced, There, Doubtful, NotCounted, Absent}
 use Rattle.vic_collection.specs.Against.{AreFindingsAgainst, AreOfNoPlace, HaveUids, IsFirstLogWith, IsWhole}
-use Rattle.vic_collection.specs.Collections.{CollectionValue, asks_for_places, is_certain_somewhere, is_number, is_of_item, is_possible_somewhere, is_unexpected, positions_from, tells_nothing}
+use Rattle.vic_collection.specs.Collections.{CollectionValue, asks_for_places, is_certain_somewhere, is_number, is_of_item, is_possible_somewhere, is_unlisted, positions_from, tells_nothing}
 use Rattle.vic_collection.specs.Findings.{AreFindings, IsUidIn, IsUnsettled}
 use Rattle.vic_collection.specs.Joins.{each_once, is_expected, is_left_over, is_without_log, places_asked_for, places_without_log}
-use Rattle.vic_collection.specs.States.{is_looked_for, is_there, is_uncounted, state_by, state_of}
+use Rattle.vic_collection.specs.States.{is_looked_for, is_there, is_place_without_log, state_by, state_of}
 use Rattle.vic_collection.specs.declared.answer.CollectionAnswer.TheVariants as answer
 use Rattle.vic_collection.specs.Answers.{IsAnswer}
 use Rattle.vic_collection.specs.Complete.{IsExpected}
@@ -74,10 +74,10 @@ filter_none p (x ∷ xs) none = rw (none x, filter_none p xs none) refl
 
 -- ---- the state of an item
 
-pub listed_state : (c : CollectionValue) (item : ItemValue) (u : ℕ) → IsListed item → item.uid ≡ Some u → state_of c item ≡ cond (is_certain_somewhere c u) There (cond (is_possible_somewhere c u) NotProvable Missing)
+pub listed_state : (c : CollectionValue) (item : ItemValue) (u : ℕ) → IsListed item → item.uid ≡ Some u → state_of c item ≡ cond (is_certain_somewhere c u) There (cond (is_possible_somewhere c u) Doubtful Absent)
 listed_state c item u listed uid = ap (state_by c item) uid ∙ rw (listed.0, listed.1) refl
 
-other_than : (s q : Bool) (st : State) → cond s There (cond q NotProvable Missing) ≡ st → (st ≡ Returned → ⊥) × (st ≡ Misplaced → ⊥) × (st ≡ NotCounted → ⊥)
+other_than : (s q : Bool) (st : State) → cond s There (cond q Doubtful Absent) ≡ st → (st ≡ Returned → ⊥) × (st ≡ Misplaced → ⊥) × (st ≡ NotCounted → ⊥)
 other_than true q st e = ((λ h. absurd cc), (λ h. absurd cc), (λ h. absurd cc))
 other_than false true st e = ((λ h. absurd cc), (λ h. absurd cc), (λ h. absurd cc))
 other_than false false st e = ((λ h. absurd cc), (λ h. absurd cc), (λ h. absurd cc))
@@ -94,7 +94,7 @@ module _ (c : CollectionValue) (expected : List ℕ) (is : IsListCatalogue c.cat
     and_true true = refl
     and_true false = refl
 
-    one : (item : ItemValue) → IsListed item → (is_number u item.uid && (not item.away && not (is_uncounted c item.place))) ≡ is_number u item.uid
+    one : (item : ItemValue) → IsListed item → (is_number u item.uid && (not item.away && not (is_place_without_log c item.place))) ≡ is_number u item.uid
     one item listed = rw (listed.0, listed.1) (and_true (is_number u item.uid))
 
   other_states : (u : ℕ) → (IsUidIn c Returned u → ⊥) × (IsUidIn c Misplaced u → ⊥) × (IsUidIn c NotCounted u → ⊥)
@@ -212,10 +212,10 @@ module _ (c : CollectionValue) (expected : List ℕ) (is : IsListCatalogue c.cat
       whole_to : count ≡ length expected → IsAnswer c (answer.Complete count)
       whole_to counted =
           let silent = position_from-zero tells_nothing c.surveys ∙ none_silent (position_from tells_nothing 0 c.surveys) (first_silent c texts says) in
-          let none_absent : NoSuch (IsUidIn c Missing) = λ u m. let x = (absent_as c texts says own u).0 m in x.1 (may u (sure u (sym (looked_for_as c expected is u) ∙ x.0))) in
-          let none_unlisted : NoSuch (λ u. is_unexpected c u ≡ true) = λ u m. let x = (unlisted_as c texts says u).0 m in not_listed u x.1 (listed_if u (may u x.0)) in
+          let none_absent : NoSuch (IsUidIn c Absent) = λ u m. let x = (absent_as c texts says own u).0 m in x.1 (may u (sure u (sym (looked_for_as c expected is u) ∙ x.0))) in
+          let none_unlisted : NoSuch (λ u. is_unlisted c u ≡ true) = λ u m. let x = (unlisted_as c texts says u).0 m in not_listed u x.1 (listed_if u (may u x.0)) in
           let none_unsettled : NoSuch (IsUnsettled c) = λ m h. let x = (unsettled_as c texts says m).0 h in let y = x.2 (uid_in m) (IsUid-in m x.0 x.1) (lies_in-uid_in m x.0 x.1) in not_listed (uid_in m) y.1 (listed_if (uid_in m) y.0.0) in
-          let none_doubtful : NoSuch (IsUidIn c NotProvable) = λ u m. let x = (doubtful_as c texts says own u).0 m in x.1.1 (sure u (sym (of_item_as c expected is u) ∙ x.0)) in
+          let none_doubtful : NoSuch (IsUidIn c Doubtful) = λ u m. let x = (doubtful_as c texts says own u).0 m in x.1.1 (sure u (sym (of_item_as c expected is u) ∙ x.0)) in
           let others = other_states c expected is in
           ((
             (((((((((silent, none_absent), none_unlisted), none_unsettled), none_doubtful), λ u. (others u).1), λ u. (others u).0), λ u. (others u).2), none_without_log c expected is), none_left_over c expected is),

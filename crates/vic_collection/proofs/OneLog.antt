@@ -10,7 +10,7 @@ use Rattle.vic_report.specs.Reports as report
 use Rattle.vic_report.specs.declared.findings.Findings.{Findings as LogFindings}
 use Rattle.vic_report.specs.declared.findings.Unsettled.{Unsettled}
 use Rattle.vic_collection.specs.declared.findings.Findings.{Findings}
-use Rattle.vic_collection.specs.Against.{AgreeWithReport, AreFindingsAgainst, AreOpenMasksOf, IsWhole}
+use Rattle.vic_collection.specs.Against.{AgreeWithReport, AreFindingsAgainst, AreOpenMasksOfLog, IsWhole}
 use Rattle.vic_collection.proofs.Agreeing.{SameUids, absent_as, doubtful_as, first_of, same_first, same_list, unlisted_as, unsettled_as}
 use Rattle.vic_collection.proofs.Families.{any_one, certain_in_some, possible_in_some}
 use Rattle.vic_collection.proofs.Texts.{certain_as, may_be, possible_as}
@@ -65,7 +65,7 @@ module _ (text : List ℕ) (log : LogValue) (is : IsLogOf (lines_of_text text) l
         doubtful = same_list _ _ _ _ (doubtful_as _ _ _ _ (listed es) same) h.doubtful k.doubtful;
       }
 
-  pub one_open_masks : one.IsPossible (entries log.lines) → (o : OpenMasks) → AreOpenMasksOf (text ∷ []) text o ↔ report.AreOpenMasks (entries log.lines) o
+  pub one_open_masks : one.IsPossible (entries log.lines) → (o : OpenMasks) → AreOpenMasksOfLog (text ∷ []) text o ↔ report.AreOpenMasks (entries log.lines) o
   one_open_masks possible o = (
     (λ h. record {
       set = h.set;

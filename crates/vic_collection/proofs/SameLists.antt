@@ -10,18 +10,18 @@ use Rattle.vic_frame.specs.Masks.{BitMask}
 use Rattle.vic_tree.specs.declared.open_masks.OpenMasks.{OpenMasks}
 use Rattle.vic_report.specs.Findings.{uids_of}
 use Rattle.vic_report.specs.declared.shown.ShownUid.{ShownUid}
-use Rattle.vic_survey.specs.Surveys.{AreSurveys, IsField}
-use Rattle.vic_survey.specs.declared.survey.Field.{Field}
-use Rattle.vic_survey.specs.declared.survey.Field.TheVariants.{Refused, Impossible, Possible}
+use Rattle.vic_survey.specs.Surveys.{AreSurveys, IsFieldInRange}
+use Rattle.vic_survey.specs.declared.survey.SurveyedField.{SurveyedField}
+use Rattle.vic_survey.specs.declared.survey.SurveyedField.TheVariants.{Refused, Impossible, Possible}
 use Rattle.vic_table.specs.Listed.{IsListCatalogue, IsListed}
 use Rattle.vic_table.specs.Values.{ItemValue}
 use Rattle.vic_collection.specs.declared.findings.Findings.{Findings}
 use Rattle.vic_collection.specs.declared.state.State.{State}
-use Rattle.vic_collection.specs.declared.state.State.TheVariants.{There, NotProvable, Missing}
+use Rattle.vic_collection.specs.declared.state.State.TheVariants.{There, Doubtful, Absent}
 use Rattle.vic_collection.specs.declared.unlisted.UnlistedUid.{UnlistedUid}
 use Rattle.vic_collection.specs.Against.{Agree}
-use Rattle.vic_collection.specs.Collections.{CollectionValue, certain_logs, is_certain_in, is_certain_somewhere, is_number, is_of_item, is_possible_in, is_possible_somewhere, is_unexpected, positions_from, tells_nothing}
-use Rattle.vic_collection.specs.Findings.{AreFindings, AreOpenMasksOf, IsShownBy, IsShownFirst, IsUidIn, IsUnsettled, is_left_open}
+use Rattle.vic_collection.specs.Collections.{CollectionValue, certain_logs, is_certain_in, is_certain_somewhere, is_number, is_of_item, is_possible_in, is_possible_somewhere, is_unlisted, positions_from, tells_nothing}
+use Rattle.vic_collection.specs.Findings.{AreFindings, AreOpenMasksOfSurvey, IsShownBy, IsShownFirst, IsUidIn, IsUnsettled, is_left_open}
 use Rattle.vic_collection.specs.States.{is_there, state_of}
 use Rattle.vic_collection.proofs.Agreeing.{same_first, same_list}
 use Rattle.vic_collection.proofs.Halves.{position_at}
@@ -30,7 +30,7 @@ use Rattle.vic_collection.proofs.Lists.{listed_state, of_item_as, of_no_place}
 
 -- the state of what is listed, by whether its UID is certain and possible
 abbrev state_told : Bool → Bool → State
-state_told s q = cond s There (cond q NotProvable Missing)
+state_told s q = cond s There (cond q Doubtful Absent)
 
 there_if : (s q : Bool) → is_there (state_told s q) ≡ s
 there_if true q = refl
@@ -95,8 +95,8 @@ module _ (c d : CollectionValue) (expected others : List ℕ) (surveys : c.surve
         (λ w. let h = two.0 w in one.1 (same_members u ∙ h.0, told ∙ h.1)),
       )
 
-  unexpected : (u : ℕ) → (is_unexpected c u ≡ true) ↔ (is_unexpected d u ≡ true)
-  unexpected u = rw (certain u, of_item u) ((λ h. h), (λ h. h))
+  unlisted_same : (u : ℕ) → (is_unlisted c u ≡ true) ↔ (is_unlisted d u ≡ true)
+  unlisted_same u = rw (certain u, of_item u) ((λ h. h), (λ h. h))
 
   left_open : (u : ℕ) → is_left_open c u ≡ is_left_open d u
   left_open u = rw (certain u, possible u, of_item u) refl
@@ -110,10 +110,10 @@ module _ (c d : CollectionValue) (expected others : List ℕ) (surveys : c.surve
       let q = of_no_place d others other g b in
       record {
         not_possible = ap is_some (a.not_possible ∙ (ap (λ (ss : List SurveyValue). position tells_nothing ss) surveys ∙ sym b.not_possible));
-        absent = same_list _ _ _ _ (uid_in Missing) a.absent.uids b.absent.uids;
-        unlisted = same_list _ _ _ _ unexpected a.unlisted.uids b.unlisted.uids;
+        absent = same_list _ _ _ _ (uid_in Absent) a.absent.uids b.absent.uids;
+        unlisted = same_list _ _ _ _ unlisted_same a.unlisted.uids b.unlisted.uids;
         unsettled = same_first _ _ _ _ unsettled a.unsettled b.unsettled;
-        doubtful = same_list _ _ _ _ (uid_in NotProvable) a.doubtful.uids b.doubtful.uids;
+        doubtful = same_list _ _ _ _ (uid_in Doubtful) a.doubtful.uids b.doubtful.uids;
         misplaced = rw (p.misplaced, q.misplaced) refl;
         returned = rw (p.returned, q.returned) refl;
         not_counted = rw (p.not_counted, q.not_counted) refl;
@@ -148,7 +148,7 @@ same_line certain up x y same a b = elim (cases_lt a.0 b.0) [
         let second = uid_at w d in
         omega (arith, rises, first, second, same)
 
-same_shown : (f : Field) → IsField f → (x y : ShownUid) → x.uid ≡ y.uid → IsShownBy f x → IsShownBy f y → x.line ≡ y.line
+same_shown : (f : SurveyedField) → IsFieldInRange f → (x y : ShownUid) → x.uid ≡ y.uid → IsShownBy f x → IsShownBy f y → x.line ≡ y.line
 same_shown (Possible s) valid x y same a b = same_line s.certain valid.certain.rising x y same a b
 same_shown (Refused n fault) valid x y same a b = absurd a
 same_shown (Impossible n) valid x y same a b = absurd a
@@ -163,7 +163,7 @@ same_told c d surveys valid x y same a b =
     let s = at.2.0 in
     let here : slice_get c.surveys x.log ≡ Some s = ap (slice_get c.surveys) e ∙ at.2.1 in
     let there : slice_get d.surveys y.log ≡ Some s = ap (slice_get d.surveys) (sym log) ∙ (ap (λ (ss : List SurveyValue). slice_get ss x.log) (sym surveys) ∙ here) in
-    let is_field = subst (λ (t : SurveyValue). IsField t.field) (get_or_from_slice_get c.surveys x.log s s here) (valid x.log s (slice_get_within c.surveys x.log s here)).field in
+    let is_field = subst (λ (t : SurveyValue). IsFieldInRange t.field) (get_or_from_slice_get c.surveys x.log s s here) (valid x.log s (slice_get_within c.surveys x.log s here)).field in
     let line : x.line ≡ y.line = same_shown s.field is_field (record { uid = x.uid; line = x.line }) (record { uid = y.uid; line = y.line }) same (a.shown s here) (b.shown s there) in
     λ i. record { uid = same i; log = log i; line = line i }
 
@@ -181,7 +181,7 @@ unlisted_by_lists c d expected others f g surveys valid is other order a b = eac
 
 -- ---- what is left to ask for
 
-pub open_masks_by_surveys : (c d : CollectionValue) (s : SurveyValue) (o : OpenMasks) → c.surveys ≡ d.surveys → AreOpenMasksOf c s o → AreOpenMasksOf d s o
+pub open_masks_by_surveys : (c d : CollectionValue) (s : SurveyValue) (o : OpenMasks) → c.surveys ≡ d.surveys → AreOpenMasksOfSurvey c s o → AreOpenMasksOfSurvey d s o
 open_masks_by_surveys c d s o surveys masks = record {
   set = masks.set;
   uids = λ u is. masks.uids u is ∙ ap (λ (ss : List SurveyValue). is_possible_in s u && not (list_any (λ t. is_certain_in t u) ss)) surveys;

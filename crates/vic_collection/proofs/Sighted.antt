@@ -6,27 +6,27 @@ use Rattle.std.proofs.lemmas.Bool.Decides.{nat_tests}
 use Rattle.std.specs.List.{filter}
 use Rattle.std.specs.List.Sorted.{IsPartitionPoint, ties}
 use Rattle.std.specs.Ordering.{is_lt, nat_cmp}
-use Rattle.vic_collection.specs.declared.certain_logs.Sighting.{Sighting}
-use Rattle.vic_collection.specs.inner.Told.{logs_with}
+use Rattle.vic_collection.specs.declared.logs_by_uid.LogOfUid.{LogOfUid}
+use Rattle.vic_collection.specs.Collections.{logs_in}
 
 -- those that tie with a sighting of a UID are those of the UID
 same_uid : (u v : ℕ) → (not (is_lt (nat_cmp u v)) && not (is_lt (nat_cmp v u))) ≡ nat_eq u v
 same_uid u v = grind (arith, nat_tests)
 
-pub logs_stay : (old new : List Sighting) → ((s : Sighting) → filter (ties (λ a b. is_lt (nat_cmp a.uid b.uid)) s) new ≡ filter (ties (λ a b. is_lt (nat_cmp a.uid b.uid)) s) old) → (u : ℕ) → logs_with new u ≡ logs_with old u
+pub logs_stay : (old new : List LogOfUid) → ((s : LogOfUid) → filter (ties (λ a b. is_lt (nat_cmp a.uid b.uid)) s) new ≡ filter (ties (λ a b. is_lt (nat_cmp a.uid b.uid)) s) old) → (u : ℕ) → logs_in new u ≡ logs_in old u
 logs_stay old new stable u =
-    let s : Sighting = record { uid = u; log = 0 } in
-    let test : ties (λ (a : Sighting) (b : Sighting). is_lt (nat_cmp a.uid b.uid)) s ≡ (λ t. nat_eq u t.uid) = λ i t. same_uid u t.uid i in
+    let s : LogOfUid = record { uid = u; log = 0 } in
+    let test : ties (λ (a : LogOfUid) (b : LogOfUid). is_lt (nat_cmp a.uid b.uid)) s ≡ (λ t. nat_eq u t.uid) = λ i t. same_uid u t.uid i in
     ap (map (λ t. t.log)) (rw test at (stable s))
 
 -- one more
-pub logs_pushed : (xs : List Sighting) (s : Sighting) (u : ℕ) → logs_with (xs ++ s ∷ []) u ≡ logs_with xs u ++ cond (nat_eq u s.uid) (s.log ∷ []) []
+pub logs_pushed : (xs : List LogOfUid) (s : LogOfUid) (u : ℕ) → logs_in (xs ++ s ∷ []) u ≡ logs_in xs u ++ cond (nat_eq u s.uid) (s.log ∷ []) []
 logs_pushed [] s u = go (nat_eq u s.uid) where
   go : (b : Bool) → map (λ t. t.log) (cond b (s ∷ []) []) ≡ cond b (s.log ∷ []) []
   go true = refl
   go false = refl
 logs_pushed (x ∷ xs) s u = go (nat_eq u x.uid) (logs_pushed xs s u) where
-  go : (b : Bool) → logs_with (xs ++ s ∷ []) u ≡ logs_with xs u ++ cond (nat_eq u s.uid) (s.log ∷ []) [] → map (λ t. t.log) (cond b (x ∷ filter (λ (t : Sighting). nat_eq u t.uid) (xs ++ s ∷ [])) (filter (λ (t : Sighting). nat_eq u t.uid) (xs ++ s ∷ []))) ≡ map (λ t. t.log) (cond b (x ∷ filter (λ (t : Sighting). nat_eq u t.uid) xs) (filter (λ (t : Sighting). nat_eq u t.uid) xs)) ++ cond (nat_eq u s.uid) (s.log ∷ []) []
+  go : (b : Bool) → logs_in (xs ++ s ∷ []) u ≡ logs_in xs u ++ cond (nat_eq u s.uid) (s.log ∷ []) [] → map (λ t. t.log) (cond b (x ∷ filter (λ (t : LogOfUid). nat_eq u t.uid) (xs ++ s ∷ [])) (filter (λ (t : LogOfUid). nat_eq u t.uid) (xs ++ s ∷ []))) ≡ map (λ t. t.log) (cond b (x ∷ filter (λ (t : LogOfUid). nat_eq u t.uid) xs) (filter (λ (t : LogOfUid). nat_eq u t.uid) xs)) ++ cond (nat_eq u s.uid) (s.log ∷ []) []
   go true rest = ap (λ l. x.log ∷ l) rest
   go false rest = rest
 

@@ -1,5 +1,5 @@
 -- What surveys say is what their logs say.
-use Rattle.vic_collection.proofs.Words.{◌≡◌, ◌<◌, ◌≤◌, ◌+◌, ℕ, suc, zero, List, [], ◌∷◌, ◌++◌, Bool, true, false, ◌||◌, ◌&&◌, not, cond, ne_eqb, append-nil, Some, None, Option, refl, sym, ap, subst, ◌∙◌, arith, ⊎_elim, ◌⊎◌, ◌↔◌, Any, AllZip, slice_get, get_or, length, both_ways, false≢true, has, has_here, has_there, IsUid, IsUid-member, list_any, list_any_at, Any-from_list_any, list_any-from_Any, slice_get-get_or, IsStrictlyIncreasing, place_of, entries, LogLine, lines_of_text, SurveyValue, HasPossibleLog, IsSurveyOf, IsCertainIn, IsCertainUid, IsPossibleIn, IsPossibleUid}
+use Rattle.vic_collection.proofs.Words.{◌≡◌, ◌<◌, ◌≤◌, ◌+◌, ℕ, suc, zero, List, [], ◌∷◌, ◌++◌, Bool, true, false, ◌||◌, ◌&&◌, not, cond, ne_eqb, append-nil, Some, None, Option, refl, sym, ap, subst, ◌∙◌, arith, ⊎_elim, ◌↔◌, Any, AllZip, slice_get, get_or, length, both_ways, false≢true, has, has_here, has_there, IsUid, IsUid-member, list_any, list_any_at, Any-from_list_any, list_any-from_Any, slice_get-get_or, IsStrictlyIncreasing, place_of, entries, LogLine, lines_of_text, SurveyValue, HasPossibleLog, IsSurveyOf, IsCertainIn, IsCertainUid, IsPossibleIn, IsPossibleUid}
 use Rattle.std.proofs.lemmas.Bool.{or_cases}
 use Rattle.std.specs.List.{slice_index}
 use Rattle.vic_frame.specs.Masks.{lies_in}
@@ -17,9 +17,9 @@ use Rattle.vic_verdict.specs.Rising.{IsListOf}
 use Rattle.vic_verdict.proofs.Verdicts.{possible_to}
 use Rattle.vic_report.specs.Findings.{uids_of}
 use Rattle.vic_survey.specs.Making.{HasUncertain, IsFieldOf}
-use Rattle.vic_survey.specs.declared.survey.Field.{Field}
-use Rattle.vic_survey.specs.declared.survey.Field.TheVariants.{Refused, Impossible, Possible}
-use Rattle.vic_survey.specs.declared.survey.Seen.{Seen}
+use Rattle.vic_survey.specs.declared.survey.SurveyedField.{SurveyedField}
+use Rattle.vic_survey.specs.declared.survey.SurveyedField.TheVariants.{Refused, Impossible, Possible}
+use Rattle.vic_survey.specs.declared.survey.FieldFacts.{FieldFacts}
 use Rattle.vic_collection.specs.Against.{IsLogWith, IsUndecidedIn}
 use Rattle.vic_collection.specs.Collections.{is_certain_by, is_certain_in, is_not_possible, is_possible_by, is_possible_in, is_undecided_in, positions_from}
 use Rattle.vic_collection.proofs.Families.{any_back, any_zip, beside, beside_back, certain_in_some, possible_in_some}
@@ -52,7 +52,7 @@ log_rises lines (suc k) = next k (slice_get lines k) (log_rises lines k) where
 
 -- ---- of one log
 
-pub no_log : (text : List ℕ) (f : Field) → IsFieldOf text f → is_not_possible f ≡ true → HasPossibleLog text → ⊥
+pub no_log : (text : List ℕ) (f : SurveyedField) → IsFieldOf text f → is_not_possible f ≡ true → HasPossibleLog text → ⊥
 no_log text (Possible s) w silent h = false≢true silent
 no_log text (Refused n fault) w silent h = not_both (lines_of_text text) n w.0 h.log w.1 h.is_log
 no_log text (Impossible n) w silent h =
@@ -61,12 +61,12 @@ no_log text (Impossible n) w silent h =
     let up : IsRisingFrom 0 w.0.lines = subst (IsRisingFrom 0) (sym w.1.all) (log_rises lines (length lines)).0 in
     w.2.0 (possible_to w.0.lines up (subst (λ (ls : List LogLine). one.IsPossible (entries ls)) (sym same) h.possible) n)
 
-pub its_log : (text : List ℕ) (f : Field) → IsFieldOf text f → is_not_possible f ≡ false → HasPossibleLog text
+pub its_log : (text : List ℕ) (f : SurveyedField) → IsFieldOf text f → is_not_possible f ≡ false → HasPossibleLog text
 its_log text (Possible s) w tells = record { log = w.0; is_log = w.1; possible = w.2.possible }
 its_log text (Refused n fault) w tells = absurd (false≢true (sym tells))
 its_log text (Impossible n) w tells = absurd (false≢true (sym tells))
 
-pub certain_in : (text : List ℕ) (f : Field) → IsFieldOf text f → (u : ℕ) → (is_certain_by f u ≡ true) ↔ IsCertainIn u text
+pub certain_in : (text : List ℕ) (f : SurveyedField) → IsFieldOf text f → (u : ℕ) → (is_certain_by f u ≡ true) ↔ IsCertainIn u text
 certain_in text (Possible s) w u =
     let is = certain_as text w.0 w.1 w.2.possible u in
     let says = w.2.certain.members u in
@@ -74,7 +74,7 @@ certain_in text (Possible s) w u =
 certain_in text (Refused n fault) w u = ((λ h. absurd (false≢true h)), (λ c. c [] (any_may_be text (no_log text (Refused n fault) w refl) [] tt)))
 certain_in text (Impossible n) w u = ((λ h. absurd (false≢true h)), (λ c. c [] (any_may_be text (no_log text (Impossible n) w refl) [] tt)))
 
-module _ (text : List ℕ) (s : Seen) (w : IsFieldOf text (Possible s)) (u : ℕ) (is : IsUid u) where
+module _ (text : List ℕ) (s : FieldFacts) (w : IsFieldOf text (Possible s)) (u : ℕ) (is : IsUid u) where
   told : is_possible_by (Possible s) u ≡ true → one.IsPossibleUid (entries w.0.lines) u
   told h = ⊎_elim
       (λ c. let p = w.2.possible in (p.0, p.1, p.2, (w.2.certain.members u).0 c p.0 p.1 p.2))
@@ -94,7 +94,7 @@ module _ (text : List ℕ) (s : Seen) (w : IsFieldOf text (Possible s)) (u : ℕ
         let among = w.2.masks.all.others mask.0 (mask.1, uncertain) in
         list_any_at (λ m. lies_in m u) s.«open» among.0 mask.0 among.1 (ap (λ m. lies_in m u) among.2 ∙ mask.2)
 
-pub possible_in : (text : List ℕ) (f : Field) → IsFieldOf text f → (u : ℕ) → IsUid u → (is_possible_by f u ≡ true) ↔ IsPossibleIn u text
+pub possible_in : (text : List ℕ) (f : SurveyedField) → IsFieldOf text f → (u : ℕ) → IsUid u → (is_possible_by f u ≡ true) ↔ IsPossibleIn u text
 possible_in text (Possible s) w u is =
     let may = possible_as text w.0 w.1 w.2.possible u in
     ((λ h. may.1 (told text s w u is h)), (λ p. tells text s w u is (may.0 p)))

@@ -1,42 +1,16 @@
 -- The logs in which UIDs are certain, with one more.
-use Rattle.vic_collection.proofs.Words.{SurveyValue, ◌≡◌, ℕ, ◌+◌, ◌<◌, List, [], ◌∷◌, ◌++◌, Bool, true, false, ◌||◌, cond, Option, Some, None, refl, sym, ap, ◌∙◌, arith, nat_tests, nat_eq, has, length, take, get_or, slice_get, append-nil, take_more, length-take-le, list_any-append, eqb-true, IsStrictlyIncreasing, AllPairs-from_increasing, place_of, slice_get_within, get_or_from_slice_get, list_any, ◌&&◌, not, suc, ne_eqb}
-use Rattle.std.specs.BTreeMap.{BTreeMap, get, is_at}
-use Rattle.std.specs.Option.{option_map_or}
-use Rattle.std.specs.Ordering.{nat_cmp}
-use Rattle.std.specs.declared.vec.Vec.{Vec}
+use Rattle.vic_collection.proofs.Words.{SurveyValue, ◌≡◌, ℕ, ◌+◌, ◌<◌, List, [], ◌∷◌, ◌++◌, Bool, true, false, ◌||◌, cond, Some, refl, sym, ap, ◌∙◌, arith, nat_eq, has, length, take, get_or, slice_get, append-nil, take_more, length-take-le, list_any-append, eqb-true, IsStrictlyIncreasing, AllPairs-from_increasing, place_of, slice_get_within, get_or_from_slice_get, list_any, ◌&&◌, not, suc, ne_eqb}
 use Rattle.std.proofs.lemmas.List.{get_or-map, get_or-take, get_or_default, length-map, take-map}
 use Rattle.vic_report.specs.Findings.{uids_of}
 use Rattle.vic_report.specs.declared.shown.ShownUid.{ShownUid}
-use Rattle.vic_survey.specs.declared.survey.Field.{Field}
-use Rattle.vic_survey.specs.declared.survey.Field.TheVariants.{Refused, Impossible, Possible}
-use Rattle.vic_survey.specs.declared.survey.Seen.{Seen}
+use Rattle.vic_survey.specs.declared.survey.SurveyedField.{SurveyedField}
+use Rattle.vic_survey.specs.declared.survey.SurveyedField.TheVariants.{Refused, Impossible, Possible}
+use Rattle.vic_survey.specs.declared.survey.FieldFacts.{FieldFacts}
 use Rattle.vic_collection.specs.Collections.{is_certain_by, is_certain_in, is_not_possible, is_possible_by, is_possible_in, positions_from, tells_nothing}
-use Rattle.vic_collection.specs.inner.Told.{IsToldBy, logs_at, is_open_by}
+use Rattle.vic_collection.specs.inner.Told.{IsToldBy, is_open_by}
 use Rattle.vic_frame.specs.Uids.{IsUid}
 use Rattle.vic_tree.specs.Ranges.{is_open_in}
 use Rattle.vic_collection.specs.declared.told.Told.{Told}
-
--- ---- of one UID
-
-at_same : (a b : ℕ) → is_at (nat_cmp a) b ≡ nat_eq b a
-at_same a b = grind (arith, nat_tests)
-
-module _ {A : Type 0} where
-  abbrev logs_of : Option (Vec ℕ A) → List ℕ
-  logs_of o = option_map_or (λ (logs : Vec ℕ A). logs.items) o []
-
-  pub log_added : (old mid new : BTreeMap ℕ (Vec ℕ A)) (uid log : ℕ) (logs more : Vec ℕ A) → logs.items ≡ logs_at old uid → more.items ≡ logs.items ++ log ∷ [] → ((q : ℕ) → get nat_cmp mid q ≡ cond (is_at (nat_cmp uid) q) None (get nat_cmp old q))
-      → ((q : ℕ) → get nat_cmp new q ≡ cond (is_at (nat_cmp uid) q) (Some more) (get nat_cmp mid q)) → (u : ℕ) → logs_at new u ≡ logs_at old u ++ cond (nat_eq u uid) (log ∷ []) []
-  log_added old mid new uid log logs more before pushed removed inserted u = go (nat_eq u uid) refl where
-    go : (b : Bool) → nat_eq u uid ≡ b → logs_at new u ≡ logs_at old u ++ cond b (log ∷ []) []
-    go true e =
-        let here : is_at (nat_cmp uid) u ≡ true = at_same uid u ∙ e in
-        let found : get nat_cmp new u ≡ Some more = inserted u ∙ ap (λ (t : Bool). cond t (Some more) (get nat_cmp mid u)) here in
-        ap logs_of found ∙ (pushed ∙ ap (λ l. l ++ log ∷ []) (before ∙ ap (logs_at old) (sym (eqb-true u uid e))))
-    go false e =
-        let there : is_at (nat_cmp uid) u ≡ false = at_same uid u ∙ e in
-        let found : get nat_cmp new u ≡ get nat_cmp old u = inserted u ∙ (ap (λ (t : Bool). cond t (Some more) (get nat_cmp mid u)) there ∙ (removed u ∙ ap (λ (t : Bool). cond t None (get nat_cmp old u)) there)) in
-        ap logs_of found ∙ sym (append-nil (logs_at old u))
 
 -- ---- of rising UIDs
 
@@ -87,7 +61,7 @@ positions_from-more test xs i x at =
     ap (positions_from test 0) (take_more xs i x lt ∙ ap (λ y. take i xs ++ y ∷ []) (get_or_from_slice_get xs i x x at)) ∙ (positions_from-push test 0 (take i xs) x ∙ rw e refl)
 
 -- a log that isn't possible makes no UID certain
-pub nothing_certain : (f : Field) (u : ℕ) → ((s : Seen) → f ≡ Possible s → ⊥) → is_certain_by f u ≡ false
+pub nothing_certain : (f : SurveyedField) (u : ℕ) → ((s : FieldFacts) → f ≡ Possible s → ⊥) → is_certain_by f u ≡ false
 nothing_certain (Possible s) u never = absurd (never s refl)
 nothing_certain (Refused n fault) u never = refl
 nothing_certain (Impossible n) u never = refl
@@ -119,7 +93,7 @@ some_position test k (x ∷ xs) = go (test x) (some_position test (k + 1) xs) wh
 
 -- ---- what all logs say
 
-possible_by : (f : Field) (u : ℕ) → is_possible_by f u ≡ (is_certain_by f u || (is_not_possible f || is_open_by f u))
+possible_by : (f : SurveyedField) (u : ℕ) → is_possible_by f u ≡ (is_certain_by f u || (is_not_possible f || is_open_by f u))
 possible_by (Possible s) u = refl
 possible_by (Refused n fault) u = refl
 possible_by (Impossible n) u = refl

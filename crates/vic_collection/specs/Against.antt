@@ -61,8 +61,8 @@ abbrev pub IsUnlisted : (ℕ → Bool) → List (List ℕ) → ℕ → Type 0
 IsUnlisted expected texts u = IsCertainUid texts u × (expected u ≡ false)
 
 -- a mask of at most 56 bits all of whose UIDs may be somewhere, may be nowhere, and aren't expected
-abbrev pub IsUnsettled : (ℕ → Bool) → List (List ℕ) → BitMask → Type 0
-IsUnsettled expected texts m =
+abbrev pub IsUnsettledAgainst : (ℕ → Bool) → List (List ℕ) → BitMask → Type 0
+IsUnsettledAgainst expected texts m =
     (m.len ≤ UID_BITS) × (m.value < 2 ^ m.len)
     × ((u : ℕ) → IsUid u → lies_in m u ≡ true
     → IsUndecided texts u × (expected u ≡ false))
@@ -73,7 +73,7 @@ IsDoubtful expected texts u = (expected u ≡ true) × IsUndecided texts u
 
 -- the first open masks of the UIDs that may be in the field of a log and are certain in none, and
 -- whether there are more
-pub record AreOpenMasksOf (texts : List (List ℕ)) (text : List ℕ) (o : OpenMasks) : Type 0 where
+pub record AreOpenMasksOfLog (texts : List (List ℕ)) (text : List ℕ) (o : OpenMasks) : Type 0 where
   pub set : ℕ → Bool
   pub uids : (u : ℕ) → IsUid u → (set u ≡ true)
       ↔ IsPossibleIn u text × (IsCertainUid texts u → ⊥)
@@ -90,8 +90,8 @@ pub record AreFindingsAgainst (looked_for expected : ℕ → Bool) (texts : List
   pub absent : IsListOf (IsAbsent looked_for texts) (map (λ x. x.uid) f.absent.items)
   pub unlisted : IsListOf (IsUnlisted expected texts) (map (λ x. x.uid) f.unlisted.items)
   pub unlisted_told : All (IsFirstTold texts) f.unlisted.items
-  pub unsettled : MatchOption f.unsettled (NoSuch (IsUnsettled expected texts))
-      (IsFirstMask (IsUnsettled expected texts))
+  pub unsettled : MatchOption f.unsettled (NoSuch (IsUnsettledAgainst expected texts))
+      (IsFirstMask (IsUnsettledAgainst expected texts))
   pub doubtful : IsListOf (IsDoubtful expected texts) (map (λ x. x.uid) f.doubtful.items)
 
 -- what an item has as its UID is one

@@ -1,14 +1,15 @@
 -- A collection: what should be there, which log is of which place, and what the logs say of their
 -- fields (profile).
-use Rattle.std.specs.Prelude.{ℕ, ◌+◌, Bool, true, false, ◌&&◌, ◌||◌, not, nat_eq, if◌then◌else◌, is_some, Option, Some, None, List, [], ◌∷◌}
-use Rattle.std.specs.List.{list_any}
+use Rattle.std.specs.Prelude.{ℕ, ◌+◌, Bool, true, false, ◌&&◌, ◌||◌, not, nat_eq, if◌then◌else◌, is_some, map, Option, Some, None, List, [], ◌∷◌}
+use Rattle.std.specs.List.{filter, list_any}
 use Rattle.vic_frame.specs.Masks.{lies_in}
 use Rattle.vic_frame.specs.Uids.{has}
 use Rattle.vic_report.specs.Findings.{uids_of}
 use Rattle.vic_survey.specs.Surveys.{SurveyValue}
-use Rattle.vic_survey.specs.declared.survey.Field.{Field}
-use Rattle.vic_survey.specs.declared.survey.Field.TheVariants.{Refused, Impossible, Possible}
+use Rattle.vic_survey.specs.declared.survey.SurveyedField.{SurveyedField}
+use Rattle.vic_survey.specs.declared.survey.SurveyedField.TheVariants.{Refused, Impossible, Possible}
 use Rattle.vic_table.specs.Values.{CatalogueValue, PlaceRowValue}
+use Rattle.vic_collection.specs.declared.logs_by_uid.LogOfUid.{LogOfUid}
 
 -- a catalogue, the rows of a table of places if there is one, and a survey of each log
 pub record CollectionValue : Type 0 where
@@ -23,13 +24,13 @@ asks_for_places c = is_some c.catalogue.columns.place
 -- ---- what a log says of a UID
 
 -- a tag with the UID was in the field
-abbrev pub is_certain_by : Field → ℕ → Bool
+abbrev pub is_certain_by : SurveyedField → ℕ → Bool
 is_certain_by (Possible s) u = has (uids_of s.certain) u
 is_certain_by (Refused n fault) u = false
 is_certain_by (Impossible n) u = false
 
 -- one may have been. Where a log tells nothing of its field, any may have been
-abbrev pub is_possible_by : Field → ℕ → Bool
+abbrev pub is_possible_by : SurveyedField → ℕ → Bool
 is_possible_by (Possible s) u =
     has (uids_of s.certain) u || list_any (λ m. lies_in m u) s.«open»
 is_possible_by (Refused n fault) u = true
@@ -41,7 +42,7 @@ is_certain_in s u = is_certain_by s.field u
 abbrev pub is_possible_in : SurveyValue → ℕ → Bool
 is_possible_in s u = is_possible_by s.field u
 
-abbrev pub is_not_possible : Field → Bool
+abbrev pub is_not_possible : SurveyedField → Bool
 is_not_possible (Possible s) = false
 is_not_possible (Refused n fault) = true
 is_not_possible (Impossible n) = true
@@ -70,10 +71,9 @@ is_undecided_in s u = is_possible_in s u && not (is_certain_in s u)
 abbrev pub possible_logs : CollectionValue → ℕ → List ℕ
 possible_logs c u = positions_from (λ s. is_undecided_in s u) 0 c.surveys
 
--- the logs that a list of UIDs with their logs has for one
-abbrev pub logs_in : List (ℕ × List ℕ) → ℕ → List ℕ
-logs_in [] u = []
-logs_in (entry ∷ entries) u = if nat_eq u entry.0 then entry.1 else logs_in entries u
+-- the logs that some rows have for a UID
+abbrev pub logs_in : List LogOfUid → ℕ → List ℕ
+logs_in rows u = map (λ row. row.log) (filter (λ row. nat_eq u row.uid) rows)
 
 abbrev pub is_certain_somewhere : CollectionValue → ℕ → Bool
 is_certain_somewhere c u = list_any (λ s. is_certain_in s u) c.surveys
@@ -92,8 +92,8 @@ abbrev pub is_of_item : CollectionValue → ℕ → Bool
 is_of_item c u = list_any (λ item. is_number u item.uid) c.catalogue.items
 
 -- a UID that is certain in some log, and of no item
-abbrev pub is_unexpected : CollectionValue → ℕ → Bool
-is_unexpected c u = is_certain_somewhere c u && not (is_of_item c u)
+abbrev pub is_unlisted : CollectionValue → ℕ → Bool
+is_unlisted c u = is_certain_somewhere c u && not (is_of_item c u)
 
 -- a UID that is certain in some log, or of an item
 abbrev pub is_named : CollectionValue → ℕ → Bool

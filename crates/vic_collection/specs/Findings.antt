@@ -12,15 +12,15 @@ use Rattle.vic_verdict.specs.Rising.{IsListOf}
 use Rattle.vic_verdict.specs.Verdict.{IsFirstMask, NoSuch}
 use Rattle.vic_report.specs.declared.shown.ShownUid.{ShownUid}
 use Rattle.vic_survey.specs.Surveys.{SurveyValue}
-use Rattle.vic_survey.specs.declared.survey.Field.{Field}
-use Rattle.vic_survey.specs.declared.survey.Field.TheVariants.{Refused, Impossible, Possible}
+use Rattle.vic_survey.specs.declared.survey.SurveyedField.{SurveyedField}
+use Rattle.vic_survey.specs.declared.survey.SurveyedField.TheVariants.{Refused, Impossible, Possible}
 use Rattle.vic_table.specs.Values.{ItemValue}
 use Rattle.vic_collection.specs.declared.findings.Findings.{Findings}
 use Rattle.vic_collection.specs.declared.found_items.FoundItem.{FoundItem}
 use Rattle.vic_collection.specs.declared.unlisted.UnlistedUid.{UnlistedUid}
 use Rattle.vic_collection.specs.declared.state.State.{State}
-use Rattle.vic_collection.specs.declared.state.State.TheVariants.{Returned, Misplaced, NotProvable, NotCounted, Missing}
-use Rattle.vic_collection.specs.Collections.{CollectionValue, certain_logs, is_certain_somewhere, is_named, is_possible_in, is_possible_somewhere, is_unexpected, positions_from, tells_nothing}
+use Rattle.vic_collection.specs.declared.state.State.TheVariants.{Returned, Misplaced, Doubtful, NotCounted, Absent}
+use Rattle.vic_collection.specs.Collections.{CollectionValue, certain_logs, is_certain_somewhere, is_named, is_possible_in, is_possible_somewhere, is_unlisted, positions_from, tells_nothing}
 use Rattle.vic_collection.specs.Joins.{is_left_over, places_without_log}
 use Rattle.vic_collection.specs.States.{is_there, state_of}
 
@@ -47,7 +47,7 @@ pub record AreFoundIn (c : CollectionValue) (state : State) (found : List FoundI
 -- ---- UIDs of no item
 
 -- the survey has the UID, with this line
-abbrev pub IsShownBy : Field → ShownUid → Type 0
+abbrev pub IsShownBy : SurveyedField → ShownUid → Type 0
 IsShownBy (Possible s) shown = Contains s.certain shown
 IsShownBy (Refused n fault) shown = ⊥
 IsShownBy (Impossible n) shown = ⊥
@@ -60,7 +60,7 @@ pub record IsShownFirst (c : CollectionValue) (x : UnlistedUid) : Type 0 where
 
 -- the UIDs that are certain somewhere and of no item, in rising order
 pub record AreUnlisted (c : CollectionValue) (found : List UnlistedUid) : Type 0 where
-  pub uids : IsListOf (λ u. is_unexpected c u ≡ true) (map (λ x. x.uid) found)
+  pub uids : IsListOf (λ u. is_unlisted c u ≡ true) (map (λ x. x.uid) found)
   pub shown : All (IsShownFirst c) found
 
 -- a UID of no item that may be somewhere and may be nowhere
@@ -78,7 +78,8 @@ abbrev pub is_left_by : CollectionValue → SurveyValue → ℕ → Bool
 is_left_by c s u = is_possible_in s u && not (is_certain_somewhere c u)
 
 -- the first open masks of these UIDs, and whether there are more
-pub record AreOpenMasksOf (c : CollectionValue) (s : SurveyValue) (o : OpenMasks) : Type 0 where
+pub record AreOpenMasksOfSurvey (c : CollectionValue) (s : SurveyValue) (o : OpenMasks)
+    : Type 0 where
   pub set : ℕ → Bool
   pub uids : SameUids set (is_left_by c s)
   pub first : AreFirst MAX_OPEN_MASKS (IsOpenMask set) o.masks.items
@@ -92,16 +93,18 @@ abbrev pub count_there : CollectionValue → ℕ
 count_there c = count_by (λ item. is_there (state_of c item)) c.catalogue.items
 
 -- the first log that isn't possible; items and UIDs by what is wrong with them; the first mask that
--- is unsettled; the places without a log and the logs of no place; how many items are there
+-- is unsettled; the places without a log and the logs of no place; the state of each item, and how
+-- many are there
 pub record AreFindings (c : CollectionValue) (f : Findings) : Type 0 where
   pub not_possible : f.not_possible ≡ position tells_nothing c.surveys
-  pub absent : AreFoundIn c Missing f.absent.items
+  pub absent : AreFoundIn c Absent f.absent.items
   pub unlisted : AreUnlisted c f.unlisted.items
   pub unsettled : MatchOption f.unsettled (NoSuch (IsUnsettled c)) (IsFirstMask (IsUnsettled c))
-  pub doubtful : AreFoundIn c NotProvable f.doubtful.items
+  pub doubtful : AreFoundIn c Doubtful f.doubtful.items
   pub misplaced : AreFoundIn c Misplaced f.misplaced.items
   pub returned : AreFoundIn c Returned f.returned.items
   pub not_counted : AreFoundIn c NotCounted f.not_counted.items
   pub without_log : map (λ place. place.now) f.without_log.items ≡ places_without_log c
   pub left_over : f.left_over.items ≡ positions_from (is_left_over c) 0 c.surveys
+  pub states : f.states.items ≡ map (state_of c) c.catalogue.items
   pub count : f.count ≡ count_there c

@@ -3,7 +3,7 @@ use Rattle.std.specs.Prelude.{ℕ, Bool, true, false, ◌&&◌, not, if◌then�
 use Rattle.std.specs.List.{list_any}
 use Rattle.vic_table.specs.Values.{ItemValue}
 use Rattle.vic_collection.specs.declared.state.State.{State}
-use Rattle.vic_collection.specs.declared.state.State.TheVariants.{NoTag, Returned, InPlace, Misplaced, There, NotProvable, Away, NotCounted, Missing}
+use Rattle.vic_collection.specs.declared.state.State.TheVariants.{NoTag, Returned, InPlace, Misplaced, There, Doubtful, Away, NotCounted, Absent}
 use Rattle.vic_collection.specs.Collections.{CollectionValue, is_certain_in, is_certain_somewhere, is_number, is_possible_somewhere}
 use Rattle.vic_collection.specs.Joins.{is_of_place, is_without_log}
 
@@ -13,9 +13,9 @@ is_certain_at c None u = false
 is_certain_at c (Some place) u =
     list_any (λ s. is_of_place c place s && is_certain_in s u) c.surveys
 
-abbrev pub is_uncounted : CollectionValue → Option (List ℕ) → Bool
-is_uncounted c None = false
-is_uncounted c (Some place) = is_without_log c place
+abbrev pub is_place_without_log : CollectionValue → Option (List ℕ) → Bool
+is_place_without_log c None = false
+is_place_without_log c (Some place) = is_without_log c place
 
 -- the state of an item with this UID
 abbrev pub state_with : CollectionValue → ItemValue → ℕ → State
@@ -24,10 +24,10 @@ state_with c item u =
     else if is_certain_at c item.place u then InPlace
     else if is_some item.place && is_certain_somewhere c u then Misplaced
     else if is_certain_somewhere c u then There
-    else if is_possible_somewhere c u then NotProvable
+    else if is_possible_somewhere c u then Doubtful
     else if item.away then Away
-    else if is_uncounted c item.place then NotCounted
-    else Missing
+    else if is_place_without_log c item.place then NotCounted
+    else Absent
 
 abbrev pub state_by : CollectionValue → ItemValue → Option ℕ → State
 state_by c item None = NoTag
@@ -40,8 +40,8 @@ state_of c item = state_by c item item.uid
 -- an item with this UID should be in a field, and its place, if it has one, has a log
 abbrev pub is_looked_for : CollectionValue → ℕ → Bool
 is_looked_for c u =
-    list_any (λ item. is_number u item.uid && (not item.away && not (is_uncounted c item.place)))
-    c.catalogue.items
+    list_any (λ item. is_number u item.uid
+    && (not item.away && not (is_place_without_log c item.place))) c.catalogue.items
 
 -- in place or there
 abbrev pub is_there : State → Bool
@@ -50,7 +50,7 @@ is_there Returned = false
 is_there InPlace = true
 is_there Misplaced = false
 is_there There = true
-is_there NotProvable = false
+is_there Doubtful = false
 is_there Away = false
 is_there NotCounted = false
-is_there Missing = false
+is_there Absent = false

@@ -8,8 +8,8 @@ ghost use Rattle.vic_collection.specs.Joins.{is_left_over, place_of_log};
 ghost use Rattle.vic_collection.specs.States.{is_certain_at, state_of};
 ghost use Rattle.vic_collection.specs.inner.Placed.{is_placed, state_by_place};
 
+use crate::items_without_log::items_without_log;
 use crate::joins::places_of_logs;
-use crate::lacking::all_lacking;
 use crate::state::State;
 use crate::told::Told;
 use std::alloc::{AllocError, Global};
@@ -28,7 +28,7 @@ pub struct Collection {
     /// The place of each log.
     pub(crate) places: Vec<Option<Vec<u8>>>,
     /// For each item whether no log is of its place, where places are asked for.
-    lacking: Vec<bool>,
+    without_log: Vec<bool>,
     pub(crate) told: Told,
 }
 
@@ -37,7 +37,7 @@ impl Model for Collection {
     ghost use Rattle.std.specs.Option.{option_map};
     ghost use Rattle.vic_collection.specs.Collections.{CollectionValue, asks_for_places};
     ghost use Rattle.vic_collection.specs.Joins.{place_of_log};
-    ghost use Rattle.vic_collection.specs.inner.Placed.{is_lacking};
+    ghost use Rattle.vic_collection.specs.inner.Placed.{is_without_log_among};
     ghost use Rattle.vic_collection.specs.inner.Told.{IsToldBy};
 
     ghost Value = { CollectionValue };
@@ -56,7 +56,7 @@ impl Model for Collection {
         } in
         (map (option_map (λ place. place.items)) a.places.items
         ≡ map (place_of_log c) a.surveys.items)
-        × (a.lacking.items ≡ map (λ item. is_lacking (asks_for_places c)
+        × (a.without_log.items ≡ map (λ item. is_without_log_among (asks_for_places c)
         (map (option_map (λ place. place.items)) a.places.items) item.place) c.catalogue.items)
         × IsToldBy a.surveys.items a.told };
 }
@@ -76,14 +76,14 @@ impl Collection {
         }) }
     {
         let places = places_of_logs(alloc, &catalogue, &rows, &surveys)?;
-        let lacking = all_lacking(alloc, &catalogue, &places)?;
+        let without_log = items_without_log(alloc, &catalogue, &places)?;
         let told = Told::by(alloc, &surveys)?;
         Ok(Collection {
             catalogue,
             rows,
             surveys,
             places,
-            lacking,
+            without_log,
             told,
         })
     }
@@ -135,7 +135,7 @@ impl Collection {
     pub fn certain_in(&self, uid: Uid) -> &[usize]
         ensures { result.now ≡ certain_logs self.now uid }
     {
-        self.told.logs_of(uid)
+        self.told.certain.logs_of(uid)
     }
 
     /// The state of an item of the catalogue.
@@ -150,7 +150,7 @@ impl Collection {
                 self.state_by_place(
                     place,
                     self.catalogue.is_away(index),
-                    self.lacking[index],
+                    self.without_log[index],
                     uid,
                 )
             }
@@ -159,15 +159,16 @@ impl Collection {
     }
 
     /// The state of an item of a place with a UID.
-    fn state_by_place(&self, place: Option<&[u8]>, away: bool, lacking: bool, uid: Uid) -> State
+    fn state_by_place(&self, place: Option<&[u8]>, away: bool, without_log: bool, uid: Uid) -> State
         ensures { result ≡ state_by_place self.now (option_map (λ p. p.now) place.entry)
-            away lacking uid }
+            away without_log uid }
     {
-        let certain = self.is_certain_somewhere(uid);
+        let logs = self.certain_in(uid);
+        let certain = self.is_certain_in_some(uid, logs);
         if away && certain {
             return State::Returned;
         }
-        if self.is_certain_at(place, uid) {
+        if self.is_certain_at(place, uid, logs) {
             return State::InPlace;
         }
         if certain {
@@ -177,39 +178,42 @@ impl Collection {
                 State::There
             };
         }
-        if self.is_possible_somewhere(uid) {
-            return State::NotProvable;
+        if self.is_possible_somewhere(uid, certain) {
+            return State::Doubtful;
         }
         if away {
             return State::Away;
         }
-        if lacking {
+        if without_log {
             State::NotCounted
         } else {
-            State::Missing
+            State::Absent
         }
     }
 
-    /// Whether a UID is certain in some log.
-    fn is_certain_somewhere(&self, uid: Uid) -> bool
+    /// Whether a UID, which is certain in these logs, is certain in some log.
+    fn is_certain_in_some(&self, uid: Uid, logs: &[usize]) -> bool
+        requires { logs.now ≡ certain_logs self.now uid }
         ensures { result ≡ is_certain_somewhere self.now uid }
     {
-        !self.told.logs_of(uid).is_empty()
+        !logs.is_empty()
     }
 
-    /// Whether a UID is possible in some log.
-    fn is_possible_somewhere(&self, uid: Uid) -> bool
+    /// Whether a UID, which is certain in some log or not, is possible in some log.
+    fn is_possible_somewhere(&self, uid: Uid, certain: bool) -> bool
+        requires { certain ≡ is_certain_somewhere self.now uid }
         ensures { result ≡ is_possible_somewhere self.now uid }
     {
-        self.is_certain_somewhere(uid) || self.told.may_have(uid)
+        certain || self.told.may_have(uid)
     }
 
-    /// Whether a UID is certain in a log of a place.
-    fn is_certain_at(&self, place: Option<&[u8]>, uid: Uid) -> bool
+    /// Whether a UID, which is certain in these logs, is certain in a log of a place.
+    fn is_certain_at(&self, place: Option<&[u8]>, uid: Uid, logs: &[usize]) -> bool
+        requires { logs.now ≡ certain_logs self.now uid }
         ensures { result ≡ is_certain_at self.now (option_map (λ p. p.now) place.entry) uid }
     {
         match place {
-            Some(place) => any_placed(&self.places, place, self.told.logs_of(uid)),
+            Some(place) => any_placed(&self.places, place, logs),
             None => false,
         }
     }

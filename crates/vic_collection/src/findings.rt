@@ -41,6 +41,8 @@ pub struct Findings<'a> {
     pub without_log: Vec<&'a [u8]>,
     /// The logs of no place, in their order.
     pub left_over: Vec<usize>,
+    /// The state of each item, in the order of the catalogue.
+    pub states: Vec<State>,
     /// How many items are in place or there.
     pub count: usize,
 }
@@ -54,16 +56,17 @@ impl Collection {
         let differences = self.differences(alloc)?;
         Ok(Findings {
             not_possible: first_telling_nothing(self.surveys()),
-            absent: self.items_in(alloc, &states, State::Missing)?,
+            absent: self.items_in(alloc, &states, State::Absent)?,
             unlisted: self.shown(alloc, differences.unlisted.as_slice())?,
             unsettled: differences.unsettled,
-            doubtful: self.items_in(alloc, &states, State::NotProvable)?,
+            doubtful: self.items_in(alloc, &states, State::Doubtful)?,
             misplaced: self.items_in(alloc, &states, State::Misplaced)?,
             returned: self.items_in(alloc, &states, State::Returned)?,
             not_counted: self.items_in(alloc, &states, State::NotCounted)?,
             without_log: self.places_without_log(alloc)?,
             left_over: self.left_over(alloc)?,
             count: count_there(&states),
+            states,
         })
     }
 

@@ -1,10 +1,8 @@
 //! The items in a state, by their UIDs.
 
-ghost use Rattle.std.specs.Prelude.{◌≡◌, ℕ, true, false, Some, is_some, length, map, IfOk};
-ghost use Rattle.std.specs.BTreeMap.{get};
-ghost use Rattle.std.specs.List.{All};
+ghost use Rattle.std.specs.Prelude.{◌≡◌, ℕ, true, false, length, map, IfOk};
+ghost use Rattle.std.specs.List.{All, Contains};
 ghost use Rattle.std.specs.List.Sorted.{IsStrictlyIncreasing};
-ghost use Rattle.std.specs.Ordering.{nat_cmp};
 ghost use Rattle.vic_frame.specs.Uids.{has};
 ghost use Rattle.vic_collection.specs.Findings.{AreFoundIn};
 ghost use Rattle.vic_collection.specs.States.{state_of};
@@ -13,9 +11,7 @@ ghost use Rattle.vic_collection.specs.inner.FoundItems.{AreAllIn};
 use crate::collection::Collection;
 use crate::state::State;
 use std::alloc::{AllocError, Global};
-use std::collections::BTreeMap;
 use vic_frame::Uid;
-use vic_tree::RisingUids;
 
 /// An item with its UID.
 #[derive(Clone, Copy, Debug, PartialEq, Eq)]
@@ -49,31 +45,30 @@ impl Collection {
         requires { states.now ≡ map (state_of self.now) self.now.catalogue.items }
         ensures { IfOk result (λ found. AreFoundIn self.now state found.items) }
     {
-        let items = self.all_in(alloc, states, state)?;
-        found_items(alloc, &items)
+        Ok(by_uids(self.all_in(alloc, states, state)?))
     }
 
-    /// For the UID of each item in a state such an item.
+    /// The items in a state that have a UID, by their rows.
     fn all_in(
         &self,
         alloc: Global,
         states: &[State],
         state: State,
-    ) -> Result<BTreeMap<Uid, usize>, AllocError>
+    ) -> Result<Vec<FoundItem>, AllocError>
         requires { states.now ≡ map (state_of self.now) self.now.catalogue.items }
-        ensures { IfOk result (AreAllIn self.now.catalogue.items states.now state
-            (length self.now.catalogue.items)) }
+        ensures { IfOk result (λ found.
+            AreAllIn self.now state (length self.now.catalogue.items) found.items) }
     {
         let catalogue = self.catalogue();
-        let mut items = BTreeMap::new(alloc);
-        for index in 0..catalogue.len() {
-            if is_same(states[index], state) {
-                if let Some(uid) = catalogue.uid(index) {
-                    items.insert(uid, index)?;
+        let mut found = Vec::new(alloc);
+        for item in 0..catalogue.len() {
+            if is_same(states[item], state) {
+                if let Some(uid) = catalogue.uid(item) {
+                    found.push(FoundItem { uid, item })?;
                 }
             }
         }
-        Ok(items)
+        Ok(found)
     }
 }
 
@@ -85,33 +80,15 @@ fn is_same(one: State, other: State) -> bool
     one == other
 }
 
-/// The UIDs of a map.
-fn uids_in(alloc: Global, items: &BTreeMap<Uid, usize>) -> Result<RisingUids, AllocError>
-    ensures { IfOk result (λ uids. (u : ℕ)
-        → has uids u ≡ is_some (get nat_cmp items.now u)) }
+/// An item for each UID of some items, by rising UIDs.
+fn by_uids(found: Vec<FoundItem>) -> Vec<FoundItem>
+    ensures rising { IsStrictlyIncreasing (map (λ f. f.uid) result.items) }
+    ensures members { (u : ℕ) → has (map (λ f. f.uid) result.items) u
+        ≡ has (map (λ f. f.uid) found.items) u }
+    ensures items { All (Contains found.items) result.items }
 {
-    let uids = items.keys().copied().collect(alloc)?;
-    Ok(RisingUids::of(uids))
-}
-
-/// What a map has, by rising UIDs.
-fn found_items(alloc: Global, items: &BTreeMap<Uid, usize>) -> Result<Vec<FoundItem>, AllocError>
-    ensures rising { IfOk result (λ found.
-        IsStrictlyIncreasing (map (λ f. f.uid) found.items)) }
-    ensures members { IfOk result (λ found. (u : ℕ)
-        → has (map (λ f. f.uid) found.items) u ≡ is_some (get nat_cmp items.now u)) }
-    ensures items { IfOk result (λ found.
-        All (λ f. get nat_cmp items.now f.uid ≡ Some f.item) found.items) }
-{
-    let rising = uids_in(alloc, items)?;
-    let uids = rising.as_slice();
-    let mut found = Vec::with_capacity(alloc, uids.len())?;
-    for uid in uids {
-        let Some(item) = items.get(uid) else {
-            unreachable!()
-        };
-        let item = *item;
-        found.push(FoundItem { uid: *uid, item })?;
-    }
-    Ok(found)
+    let mut found = found;
+    found.sort_unstable_by_key(|one| one.uid);
+    found.dedup_by_key(|one| one.uid);
+    found
 }

@@ -23,7 +23,7 @@ ghost use Rattle.vic_collection.specs.Answers.{IsAnswer};
 ghost use Rattle.vic_collection.specs.Collections.{CollectionValue, certain_logs, is_certain_in, is_certain_somewhere, is_of_item, is_possible_in, is_possible_somewhere, possible_logs};
 ghost use Rattle.vic_collection.specs.Complete.{IsComplete, IsSurveyOf};
 ghost use Rattle.vic_collection.specs.Families.{IsCertainIn, IsCertainUid, IsPossibleIn, IsPossibleUid};
-ghost use Rattle.vic_collection.specs.Findings.{AreFindings, AreOpenMasksOf};
+ghost use Rattle.vic_collection.specs.Findings.{AreFindings, AreOpenMasksOfSurvey};
 ghost use Rattle.vic_collection.specs.States.{is_looked_for, state_of};
 ghost use Rattle.vic_collection.specs.declared.answer.CollectionAnswer.TheVariants.{Complete};
 ghost use Rattle.vic_collection.specs.declared.findings.Findings.{Findings};
@@ -54,7 +54,7 @@ pub fn one_log()
         → report.AreFindings log.lines g → AgreeWithReport f g }
     ensures open_masks { (text : List ℕ) (log : LogValue) (o : OpenMasks)
         → IsLogOf (lines_of_text text) log → one.IsPossible (entries log.lines)
-        → against.AreOpenMasksOf (text ∷ []) text o ↔ report.AreOpenMasks (entries log.lines) o }
+        → against.AreOpenMasksOfLog (text ∷ []) text o ↔ report.AreOpenMasks (entries log.lines) o }
     ensures whole { (text : List ℕ) (log : LogValue) → IsLogOf (lines_of_text text) log
         → IsWhole (listed (entries log.lines)) (text ∷ [])
         ↔ verdict.IsWhole (entries log.lines) }
@@ -117,7 +117,7 @@ pub fn findings_are_of_logs()
         (IsFirstLogWith (IsPossibleIn u) texts) }
     ensures open_masks { (c : CollectionValue) (texts : List (List ℕ)) (text : List ℕ)
         (s : SurveyValue) (o : OpenMasks) → AllZip IsSurveyOf texts c.surveys
-        → IsSurveyOf text s → AreOpenMasksOf c s o → against.AreOpenMasksOf texts text o }
+        → IsSurveyOf text s → AreOpenMasksOfSurvey c s o → against.AreOpenMasksOfLog texts text o }
 {}
 
 /// Against a list of UIDs, what is found is how the list differs from the logs, and nothing else.
@@ -143,7 +143,7 @@ pub fn findings_of_lists()
         → IsListCatalogue d.catalogue others → IsPermutation expected others
         → AreFindings c f → AreFindings d g → f.unlisted.items ≡ g.unlisted.items }
     ensures same_open_masks { (c d : CollectionValue) (s : SurveyValue) (o : OpenMasks)
-        → c.surveys ≡ d.surveys → AreOpenMasksOf c s o → AreOpenMasksOf d s o }
+        → c.surveys ≡ d.surveys → AreOpenMasksOfSurvey c s o → AreOpenMasksOfSurvey d s o }
 {}
 
 /// Where the answer is `Complete`, and each survey is what the text of its log says, everything

@@ -2,7 +2,7 @@
 
 ghost use Rattle.std.specs.Prelude.{IfOk};
 ghost use Rattle.std.specs.List.{AllZip};
-ghost use Rattle.vic_collection.specs.Findings.{AreOpenMasksOf};
+ghost use Rattle.vic_collection.specs.Findings.{AreOpenMasksOfSurvey};
 
 use crate::collection::Collection;
 use crate::possible_logs::undecided_set;
@@ -14,7 +14,7 @@ impl Collection {
     /// and whether there are more.
     pub fn open_masks(&self, alloc: Global) -> Result<Vec<OpenMasks>, AllocError>
         ensures { IfOk result (λ masks.
-            AllZip (AreOpenMasksOf self.now) self.now.surveys masks.items) }
+            AllZip (AreOpenMasksOfSurvey self.now) self.now.surveys masks.items) }
     {
         let certain = self.certain_uids(alloc)?;
         let keys = SpacedKeys::of(alloc, certain.as_slice())?;

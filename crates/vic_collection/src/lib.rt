@@ -8,15 +8,15 @@
 
 mod alike;
 mod answer;
-mod certain_logs;
 mod collection;
 mod findings;
 mod found;
 mod found_items;
+mod items_without_log;
 mod joins;
-mod lacking;
 pub mod laws;
 mod left_to_ask;
+mod logs_by_uid;
 mod possible_logs;
 mod state;
 mod told;
@@ -29,6 +29,6 @@ pub use collection::Collection;
 pub use findings::Findings;
 pub use found::{base_of, stem_of};
 pub use found_items::FoundItem;
-pub use possible_logs::PossibleLogs;
+pub use logs_by_uid::{LogOfUid, LogsByUid};
 pub use state::State;
 pub use unlisted::UnlistedUid;

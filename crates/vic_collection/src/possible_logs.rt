@@ -3,76 +3,49 @@
 //! The logs are halved again and again, and a UID goes on to the halves of which some log leaves it
 //! open. So no log is asked for each UID.
 
-ghost use Rattle.std.specs.Prelude.{◌≡◌, ◌+◌, ◌<◌, ◌^◌, ◌++◌, ◌∷◌, [], ℕ, true, if◌then◌else◌, nat_eq, length, map, IfOk, OnOk};
+ghost use Rattle.std.specs.Prelude.{◌≡◌, ◌+◌, ◌<◌, ◌^◌, ◌++◌, ◌∷◌, [], ℕ, true, if◌then◌else◌, length, map, IfOk, OnOk};
 ghost use Rattle.std.specs.List.{filter};
 ghost use Rattle.std.specs.List.Sorted.{IsStrictlyIncreasing};
 ghost use Rattle.vic_frame.specs.Uids.{IsUid, has};
 ghost use Rattle.vic_tree.specs.OpenSet.{SameUids};
 ghost use Rattle.vic_tree.specs.Ranges.{is_open_in};
 ghost use Rattle.vic_collection.specs.Collections.{is_named, is_undecided_in, logs_in, positions_from, possible_logs};
-ghost use Rattle.vic_collection.specs.inner.Told.{logs_at};
 
 use crate::collection::Collection;
+use crate::logs_by_uid::{LogOfUid, LogsByUid};
 use crate::uids::push_uids;
 use std::alloc::{AllocError, Global};
-use std::collections::BTreeMap;
-use std::marker::Model;
 use vic_frame::Uid;
-use vic_survey::{Field, Survey};
+use vic_survey::{Survey, SurveyedField};
 use vic_tree::{OpenSet, RangeSet, SortedKeys};
 
-/// The logs in which UIDs are possible and not certain: of each UID that is of an item of a
-/// collection, or certain in one of its logs.
-#[derive(Drop)]
-pub struct PossibleLogs {
-    logs: BTreeMap<Uid, Vec<usize>>,
-}
-
-impl Model for PossibleLogs {
-    ghost use Rattle.std.specs.Prelude.{ℕ, List, map};
-
-    ghost Value = { List (ℕ × List ℕ) };
-
-    ghost view = { λ a. map (λ entry. (entry.0, entry.1.items)) a.logs.entries };
-}
-
-impl PossibleLogs {
-    /// Those of a collection.
-    pub fn of(alloc: Global, collection: &Collection) -> Result<PossibleLogs, AllocError>
-        ensures { IfOk result (λ logs. (u : ℕ) → IsUid u → is_named collection.now u ≡ true
-            → logs_in logs u ≡ possible_logs collection.now u) }
+impl Collection {
+    /// For each UID that is of an item, or certain in some log, the logs in which it is possible
+    /// and not certain, by their positions, in their order.
+    pub fn possible_logs(&self, alloc: Global) -> Result<LogsByUid, AllocError>
+        ensures { IfOk result (λ logs. (u : ℕ) → IsUid u → is_named self.now u ≡ true
+            → logs_in logs u ≡ possible_logs self.now u) }
     {
-        let uids = collection.named_uids(alloc)?;
-        let sets = undecided_sets(alloc, collection.surveys())?;
-        let mut logs = BTreeMap::new(alloc);
-        note(alloc, &mut logs, &sets, 0, uids.as_slice())?;
-        Ok(PossibleLogs { logs })
-    }
-
-    /// Those of a UID, by their positions, in their order.
-    pub fn logs_of(&self, uid: Uid) -> &[usize]
-        ensures value { result.now ≡ logs_in self.now uid }
-        ensures range { IsUid uid }
-    {
-        let _number = uid.number();
-        match self.logs.get(&uid) {
-            Some(logs) => logs.as_slice(),
-            None => &[],
-        }
+        let uids = self.named_uids(alloc)?;
+        let sets = undecided_sets(alloc, self.surveys())?;
+        let mut rows = Vec::new(alloc);
+        note(alloc, &mut rows, &sets, 0, uids.as_slice())?;
+        LogsByUid::of(alloc, rows)
     }
 }
 
 /// Notes for each of some UIDs the sets that have it. The sets are numbered from `from` on.
 fn note(
     alloc: Global,
-    logs: &mut BTreeMap<Uid, Vec<usize>>,
+    rows: &mut Vec<LogOfUid>,
     sets: &[RangeSet],
     from: usize,
     uids: &[Uid],
 ) -> Result<(), AllocError>
     requires fits { from + length sets.now < 2 ^ 64 }
     requires rising { IsStrictlyIncreasing uids.now }
-    ensures { OnOk result ((u : ℕ) → IsUid u → logs_at logs.new u ≡ logs_at logs.old u
+    ensures { OnOk result ((u : ℕ) → IsUid u
+        → logs_in rows.new.items u ≡ logs_in rows.old.items u
         ++ (if has uids.now u then positions_from (λ set. is_open_in set u) from sets.now
         else [])) }
 {
@@ -81,11 +54,11 @@ fn note(
     }
     let inside = inside(alloc, &RangeSet::union(alloc, sets)?, uids)?;
     if sets.len() < 2 {
-        return add_each(alloc, logs, &inside, from);
+        return note_each(rows, &inside, from);
     }
     let (front, back) = sets.split_at(sets.len() / 2);
-    note(alloc, logs, front, from, &inside)?;
-    note(alloc, logs, back, from + front.len(), &inside)
+    note(alloc, rows, front, from, &inside)?;
+    note(alloc, rows, back, from + front.len(), &inside)
 }
 
 /// The UIDs of a list that are in a set.
@@ -98,39 +71,15 @@ fn inside(alloc: Global, set: &RangeSet, uids: &[Uid]) -> Result<Vec<Uid>, Alloc
         .collect(alloc)
 }
 
-/// Adds a log to those of each of some UIDs.
-fn add_each(
-    alloc: Global,
-    logs: &mut BTreeMap<Uid, Vec<usize>>,
-    uids: &[Uid],
-    log: usize,
-) -> Result<(), AllocError>
+/// Notes a log for each of some UIDs.
+fn note_each(rows: &mut Vec<LogOfUid>, uids: &[Uid], log: usize) -> Result<(), AllocError>
     requires { IsStrictlyIncreasing uids.now }
-    ensures { OnOk result ((u : ℕ) → logs_at logs.new u ≡ logs_at logs.old u
+    ensures { OnOk result ((u : ℕ) → logs_in rows.new.items u ≡ logs_in rows.old.items u
         ++ (if has uids.now u then log ∷ [] else [])) }
 {
     for uid in uids {
-        add(alloc, logs, *uid, log)?;
+        rows.push(LogOfUid { uid: *uid, log })?;
     }
-    Ok(())
-}
-
-/// Adds a log to those of a UID.
-fn add(
-    alloc: Global,
-    known: &mut BTreeMap<Uid, Vec<usize>>,
-    uid: Uid,
-    log: usize,
-) -> Result<(), AllocError>
-    ensures { OnOk result ((u : ℕ) → logs_at known.new u ≡ logs_at known.old u
-        ++ (if nat_eq u uid then log ∷ [] else [])) }
-{
-    let mut logs = match known.remove(&uid) {
-        Some(logs) => logs,
-        None => Vec::new(alloc),
-    };
-    logs.push(log)?;
-    known.insert(uid, logs)?;
     Ok(())
 }
 
@@ -152,8 +101,10 @@ pub(crate) fn undecided_set(alloc: Global, survey: &Survey) -> Result<RangeSet, 
     ensures { IfOk result (λ set. SameUids (is_open_in set) (is_undecided_in survey.now)) }
 {
     match survey.field() {
-        Field::Refused { .. } | Field::Impossible { .. } => RangeSet::everything(alloc),
-        Field::Possible(seen) => {
+        SurveyedField::Refused { .. } | SurveyedField::Impossible { .. } => RangeSet::everything(
+            alloc,
+        ),
+        SurveyedField::Possible(seen) => {
             let mut certain = Vec::new(alloc);
             push_uids(&mut certain, seen.certain.as_slice())?;
             let masks = RangeSet::of_masks(alloc, seen.open.as_slice())?;

@@ -14,11 +14,11 @@ pub enum State {
     /// It has no place, and is certain in some log.
     There,
     /// It is possible somewhere.
-    NotProvable,
+    Doubtful,
     /// It is away.
     Away,
     /// No log is of its place.
     NotCounted,
     /// It was in none of the fields.
-    Missing,
+    Absent,
 }

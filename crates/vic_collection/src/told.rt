@@ -7,21 +7,21 @@ ghost use Rattle.vic_frame.specs.Masks.{lies_in};
 ghost use Rattle.vic_frame.specs.Uids.{IsUid, has};
 ghost use Rattle.vic_tree.specs.Ranges.{is_open_in};
 ghost use Rattle.vic_report.specs.Findings.{uids_of};
-ghost use Rattle.vic_collection.specs.Collections.{is_certain_in, positions_from, tells_nothing};
-ghost use Rattle.vic_collection.specs.inner.Told.{IsToldBy, logs_with, is_open_by};
+ghost use Rattle.vic_collection.specs.Collections.{is_certain_in, logs_in, positions_from, tells_nothing};
+ghost use Rattle.vic_collection.specs.inner.Told.{IsToldBy, is_open_by};
 
-use crate::certain_logs::{CertainLogs, Sighting};
+use crate::logs_by_uid::{LogOfUid, LogsByUid};
 use std::alloc::{AllocError, Global};
 use vic_frame::{Mask, Uid};
 use vic_report::ShownUid;
-use vic_survey::{Field, Survey};
+use vic_survey::{Survey, SurveyedField};
 use vic_tree::{OpenSet, RangeSet};
 
 /// What the logs of a collection say of UIDs.
 #[derive(Drop)]
 pub(crate) struct Told {
     /// In which logs UIDs are certain.
-    pub(crate) certain: CertainLogs,
+    pub(crate) certain: LogsByUid,
     /// The UIDs that lie in an open mask of some log.
     pub(crate) open: RangeSet,
     /// Whether some log tells nothing, so that any UID may have been in its field.
@@ -35,19 +35,12 @@ impl Told {
     {
         let masks = open_masks(alloc, surveys)?;
         let sightings = all_sightings(alloc, surveys)?;
-        let certain = CertainLogs::of(alloc, sightings)?;
+        let certain = LogsByUid::of(alloc, sightings)?;
         Ok(Told {
             certain,
             open: RangeSet::of_masks(alloc, &masks)?,
             nothing: any_tells_nothing(surveys),
         })
-    }
-
-    /// The positions of the logs in which a UID is certain, in their order.
-    pub(crate) fn logs_of(&self, uid: Uid) -> &[usize]
-        ensures { result.now ≡ logs_with self.now.certain uid }
-    {
-        self.certain.logs_of(uid)
     }
 
     /// Whether a UID that is certain in no log may have been in a field.
@@ -72,8 +65,8 @@ pub(crate) fn tells_nothing(survey: &Survey) -> bool
     ensures { result ≡ tells_nothing survey.now }
 {
     match survey.field() {
-        Field::Refused { .. } | Field::Impossible { .. } => true,
-        Field::Possible(_) => false,
+        SurveyedField::Refused { .. } | SurveyedField::Impossible { .. } => true,
+        SurveyedField::Possible(_) => false,
     }
 }
 
@@ -84,7 +77,7 @@ fn open_masks(alloc: Global, surveys: &[Survey]) -> Result<Vec<Mask>, AllocError
 {
     let mut masks = Vec::new(alloc);
     for survey in surveys {
-        if let Field::Possible(seen) = survey.field() {
+        if let SurveyedField::Possible(seen) = survey.field() {
             masks.extend_from_slice(seen.open.as_slice())?;
         }
     }
@@ -92,13 +85,13 @@ fn open_masks(alloc: Global, surveys: &[Survey]) -> Result<Vec<Mask>, AllocError
 }
 
 /// The UIDs that are certain in each log, one log after the other.
-fn all_sightings(alloc: Global, surveys: &[Survey]) -> Result<Vec<Sighting>, AllocError>
-    ensures { IfOk result (λ sightings. (u : ℕ) → logs_with sightings.items u
+fn all_sightings(alloc: Global, surveys: &[Survey]) -> Result<Vec<LogOfUid>, AllocError>
+    ensures { IfOk result (λ sightings. (u : ℕ) → logs_in sightings.items u
         ≡ positions_from (λ s. is_certain_in s u) 0 surveys.now) }
 {
     let mut sightings = Vec::new(alloc);
     for (index, survey) in surveys.iter().enumerate() {
-        if let Field::Possible(seen) = survey.field() {
+        if let SurveyedField::Possible(seen) = survey.field() {
             push_all(&mut sightings, seen.certain.as_slice(), index)?;
         }
     }
@@ -106,15 +99,15 @@ fn all_sightings(alloc: Global, surveys: &[Survey]) -> Result<Vec<Sighting>, All
 }
 
 /// Appends the UIDs that are certain in a log.
-fn push_all(sightings: &mut Vec<Sighting>, uids: &[ShownUid], log: usize) -> Result<(), AllocError>
+fn push_all(sightings: &mut Vec<LogOfUid>, uids: &[ShownUid], log: usize) -> Result<(), AllocError>
     requires { IsStrictlyIncreasing (uids_of uids.now) }
-    ensures { OnOk result ((u : ℕ) → logs_with sightings.new.items u
-        ≡ logs_with sightings.old.items u
+    ensures { OnOk result ((u : ℕ) → logs_in sightings.new.items u
+        ≡ logs_in sightings.old.items u
         ++ (if has (uids_of uids.now) u then log ∷ [] else [])) }
 {
     for shown in uids {
         let uid = shown.uid;
-        sightings.push(Sighting { uid, log })?;
+        sightings.push(LogOfUid { uid, log })?;
     }
     Ok(())
 }

@@ -9,7 +9,7 @@ use crate::collection::Collection;
 use std::alloc::{AllocError, Global};
 use vic_frame::Uid;
 use vic_report::ShownUid;
-use vic_survey::Field;
+use vic_survey::SurveyedField;
 use vic_tree::RisingUids;
 
 impl Collection {
@@ -47,7 +47,7 @@ impl Collection {
             ≡ (has uids.old.items u || is_certain_somewhere self.now u)) }
     {
         for survey in self.surveys() {
-            if let Field::Possible(seen) = survey.field() {
+            if let SurveyedField::Possible(seen) = survey.field() {
                 push_uids(uids, seen.certain.as_slice())?;
             }
         }

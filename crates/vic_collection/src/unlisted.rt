@@ -10,14 +10,14 @@ ghost use Rattle.vic_verdict.specs.Verdict.{IsFirstMask, NoSuch};
 ghost use Rattle.vic_report.specs.Findings.{uids_of};
 ghost use Rattle.vic_report.specs.declared.shown.ShownUid.{ShownUid as ShownUidValue};
 ghost use Rattle.vic_survey.specs.Surveys.{SurveyValue};
-ghost use Rattle.vic_collection.specs.Collections.{is_certain_in, is_certain_somewhere, is_possible_somewhere, is_unexpected};
+ghost use Rattle.vic_collection.specs.Collections.{is_certain_in, is_certain_somewhere, is_possible_somewhere, is_unlisted};
 ghost use Rattle.vic_collection.specs.Findings.{IsShownBy, IsShownFirst, IsUnsettled};
 
 use crate::collection::Collection;
 use std::alloc::{AllocError, Global};
 use vic_frame::Uid;
 use vic_report::ShownUid;
-use vic_survey::Field;
+use vic_survey::SurveyedField;
 use vic_tree::{OpenSet, RangeSet, SortedKeys};
 use vic_verdict::{Differences, compare};
 
@@ -32,18 +32,10 @@ pub struct UnlistedUid {
 }
 
 impl Collection {
-    /// The UIDs that are certain in some log and of no item, in rising order.
-    pub fn unexpected(&self, alloc: Global) -> Result<Vec<Uid>, AllocError>
-        ensures { IfOk result (λ uids. IsListOf (λ u. is_unexpected self.now u ≡ true) uids.items) }
-    {
-        let differences = self.differences(alloc)?;
-        Ok(differences.unlisted.into_vec())
-    }
-
     /// How the UIDs of items differ from what the logs say.
     pub(crate) fn differences(&self, alloc: Global) -> Result<Differences, AllocError>
         ensures unlisted { IfOk result (λ d.
-            IsListOf (λ u. is_unexpected self.now u ≡ true) d.unlisted) }
+            IsListOf (λ u. is_unlisted self.now u ≡ true) d.unlisted) }
         ensures unsettled { IfOk result (λ d. MatchOption d.unsettled
             (NoSuch (IsUnsettled self.now)) (IsFirstMask (IsUnsettled self.now))) }
     {
@@ -97,7 +89,7 @@ impl Collection {
         ensures { (s : SurveyValue) → slice_get self.now.surveys log ≡ Some s
             → IsShownBy s.field (record { uid = uid; line = result }) }
     {
-        let Field::Possible(seen) = self.surveys()[log].field() else {
+        let SurveyedField::Possible(seen) = self.surveys()[log].field() else {
             unreachable!()
         };
         line_of(seen.certain.as_slice(), uid)

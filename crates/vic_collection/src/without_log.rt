@@ -7,7 +7,7 @@ ghost use Rattle.vic_collection.specs.Joins.{place_if_expected, places_without_l
 ghost use Rattle.vic_collection.specs.inner.Without.{AreAdded};
 
 use crate::collection::Collection;
-use crate::lacking::places_of;
+use crate::items_without_log::places_with_log;
 use std::alloc::{AllocError, Global};
 use std::collections::BTreeSet;
 use vic_table::{Catalogue, Places};
@@ -23,7 +23,7 @@ impl Collection {
         if self.catalogue.columns().place.is_none() {
             return Ok(without);
         }
-        let mut known = places_of(alloc, &self.places)?;
+        let mut known = places_with_log(alloc, &self.places)?;
         add_items(&mut known, &mut without, &self.catalogue)?;
         if let Some(rows) = &self.rows {
             add_rows(&mut known, &mut without, rows)?;

@@ -4,12 +4,12 @@ use Rattle.std.specs.Option.{option_map_or}
 use Rattle.std.proofs.lemmas.List.{map-append}
 use Rattle.vic_answer.specs.declared.status.Status.{Status}
 use Rattle.vic_survey.specs.Surveys.{SurveyValue}
-use Rattle.vic_survey.specs.declared.survey.Field.{Field}
-use Rattle.vic_survey.specs.declared.survey.Field.TheVariants.{Refused, Impossible, Possible}
+use Rattle.vic_survey.specs.declared.survey.SurveyedField.{SurveyedField}
+use Rattle.vic_survey.specs.declared.survey.SurveyedField.TheVariants.{Refused, Impossible, Possible}
 use Rattle.vic_collection.specs.Collections.{CollectionValue}
 use Rattle.vic_collection.specs.declared.answer.CollectionAnswer.{CollectionAnswer}
 use Rattle.vic_collection.specs.declared.answer.CollectionAnswer.TheVariants as answer
-use Rattle.vic_result.specs.Answered.{answer_status, not_possible_status}
+use Rattle.vic_result.specs.Answered.{IsAnswerStatus, answer_status, not_possible_status}
 use Rattle.vic_operands.specs.Files.{File}
 use Rattle.vic_operands.specs.declared.gathered.Gathered.{Gathered}
 use Rattle.vic_operands.specs.declared.gathered.Gathered.TheVariants as gathered
@@ -58,7 +58,7 @@ module _ (Are : List File → Gathered → Type 0) (alone : (files : List File) 
 
 -- ---- the status of an answer
 
-small_field : (f : Field) → not_possible_status f ≤ 3
+small_field : (f : SurveyedField) → not_possible_status f ≤ 3
 small_field (Refused n fault) = omega arith
 small_field (Impossible n) = omega arith
 small_field (Possible s) = omega arith
@@ -67,7 +67,7 @@ small_at : (o : Option SurveyValue) → option_map_or (λ s. not_possible_status
 small_at None = omega arith
 small_at (Some s) = small_field s.field
 
-pub small_status : (c : CollectionValue) (a : CollectionAnswer) → answer_status c a ≤ 3
+small_status : (c : CollectionValue) (a : CollectionAnswer) → answer_status c a ≤ 3
 small_status c (answer.NotPossible log) = small_at (slice_get c.surveys log)
 small_status c (answer.Absent u) = omega arith
 small_status c (answer.Unlisted u) = omega arith
@@ -79,3 +79,6 @@ small_status c (answer.NotCounted u) = omega arith
 small_status c (answer.WithoutLog place) = omega arith
 small_status c (answer.LeftOver log) = omega arith
 small_status c (answer.Complete count) = omega arith
+
+pub small_code : (c : CollectionValue) (code : ℕ) → IsAnswerStatus c code → code ≤ 3
+small_code c code h = rw h.2 (small_status c h.0)

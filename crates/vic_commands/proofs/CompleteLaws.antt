@@ -6,8 +6,8 @@ use Rattle.std.proofs.lemmas.List.Elements.{recursion_from_All}
 use Rattle.vic_answer.specs.declared.status.Status.TheVariants.{Whole}
 use Rattle.vic_survey.specs.Surveys.{AreSurveys, SurveyValue}
 use Rattle.vic_survey.specs.SurveyText.{text_of}
-use Rattle.vic_survey.specs.declared.survey.Field.{Field}
-use Rattle.vic_survey.specs.declared.survey.Field.TheVariants.{Refused, Impossible, Possible}
+use Rattle.vic_survey.specs.declared.survey.SurveyedField.{SurveyedField}
+use Rattle.vic_survey.specs.declared.survey.SurveyedField.TheVariants.{Refused, Impossible, Possible}
 use Rattle.vic_collection.specs.Answers.{IsAnswer}
 use Rattle.vic_collection.specs.Collections.{CollectionValue}
 use Rattle.vic_collection.specs.Complete.{IsComplete, IsSurveyOf}
@@ -29,7 +29,7 @@ use Rattle.vic_commands.specs.declared.collected.Form.TheVariants as form
 
 -- ---- only `Complete` has status 0
 
-not_possible : (f : Field) → 0 ≡ not_possible_status f → ⊥
+not_possible : (f : SurveyedField) → 0 ≡ not_possible_status f → ⊥
 not_possible (Refused n fault) e = omega (arith, e)
 not_possible (Impossible n) e = omega (arith, e)
 not_possible (Possible s) e = omega (arith, e)

@@ -1,9 +1,7 @@
 -- What the commands about a collection write.
 use Rattle.std.specs.Prelude.{◌≡◌, ℕ, List, [], ◌∷◌, ◌++◌, codes, decimal, map, string_bytes}
 use Rattle.vic_log.specs.Lines.{lf}
-use Rattle.vic_collection.specs.Answers.{IsAnswer}
 use Rattle.vic_collection.specs.Collections.{CollectionValue}
-use Rattle.vic_collection.specs.declared.answer.CollectionAnswer.{CollectionAnswer}
 use Rattle.vic_operands.specs.Faults.{operand_fault_name}
 use Rattle.vic_operands.specs.Files.{File}
 use Rattle.vic_operands.specs.Gathered.{IsGathered}
@@ -11,10 +9,10 @@ use Rattle.vic_operands.specs.Lists.{IsGatheredToReconcile}
 use Rattle.vic_operands.specs.declared.fault.Refusal.{Refusal}
 use Rattle.vic_operands.specs.declared.gathered.Gathered.{Gathered}
 use Rattle.vic_operands.specs.declared.gathered.Gathered.TheVariants as gathered
-use Rattle.vic_result.specs.Answered.{answer_status}
-use Rattle.vic_result.specs.ResultLines.{AreLinesOf}
-use Rattle.vic_result.specs.ResultObject.{IsObjectOf}
-use Rattle.vic_result.specs.ResultTable.{IsTableOf}
+use Rattle.vic_result.specs.Answered.{IsAnswerStatus}
+use Rattle.vic_result.specs.ResultLines.{AreCollectionLines}
+use Rattle.vic_result.specs.ResultObject.{IsCollectionObject}
+use Rattle.vic_result.specs.ResultTable.{IsCollectionTable}
 use Rattle.vic_answer.specs.Status.{status_code}
 use Rattle.vic_answer.specs.declared.status.Status.{Status}
 use Rattle.vic_answer.specs.declared.status.Status.TheVariants.{Refused}
@@ -29,14 +27,14 @@ refusal_line r =
 
 -- what a command writes of a collection: its table; its object, which is one line; or lines
 abbrev pub IsFormOf : Form → CollectionValue → List ℕ → Type 0
-IsFormOf form.Table c text = IsTableOf c text
-IsFormOf form.Object c text = (object : List ℕ) × IsObjectOf c object × (text ≡ object ++ lf ∷ [])
-IsFormOf form.Lines c text = AreLinesOf c text
+IsFormOf form.Table c text = IsCollectionTable c text
+IsFormOf form.Object c text =
+    (object : List ℕ) × IsCollectionObject c object × (text ≡ object ++ lf ∷ [])
+IsFormOf form.Lines c text = AreCollectionLines c text
 
 -- the status of the answer of a collection
 abbrev pub IsStatusOf : CollectionValue → Status → Type 0
-IsStatusOf c status =
-    (a : CollectionAnswer) × IsAnswer c a × (status_code status ≡ answer_status c a)
+IsStatusOf c status = IsAnswerStatus c (status_code status)
 
 -- the files with these names and texts
 pub record AreFiles (names texts : List (List ℕ)) (files : List File) : Type 0 where

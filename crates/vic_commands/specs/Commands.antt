@@ -10,7 +10,7 @@ use Rattle.vic_answer.specs.ReportText.{IsReportOf}
 use Rattle.vic_answer.specs.SimulateText.{IsSimulationOf}
 use Rattle.vic_answer.specs.SpellText.{spell_text, spell_status}
 use Rattle.vic_answer.specs.declared.status.Status.{Status}
-use Rattle.vic_object.specs.Object.{IsObjectOf}
+use Rattle.vic_object.specs.Object.{IsJsonOf}
 use Rattle.vic_commands.specs.Collected.{IsJsonCollectionRun, IsReconcileRun, IsCollectionRun}
 use Rattle.vic_commands.specs.Surveyed.{IsSurveyRun}
 use Rattle.vic_commands.specs.declared.commands.Command.{Command}
@@ -61,7 +61,7 @@ Writes Frame names texts = OfOnly IsFrameOf texts
 Writes Spell names texts = IsSpellingOf texts
 Writes Survey names texts = OfNamed IsSurveyRun names texts
 Writes Collection names texts = OfNamed IsCollectionRun names texts
-Writes Json names texts = OfOnly IsObjectOf texts
+Writes Json names texts = OfOnly IsJsonOf texts
 Writes JsonCollection names texts = OfNamed IsJsonCollectionRun names texts
 
 -- an answer is one that W allows; where there is none, W allows none

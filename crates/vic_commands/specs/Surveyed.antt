@@ -5,17 +5,17 @@ use Rattle.vic_survey.specs.Making.{IsFieldOf}
 use Rattle.vic_survey.specs.Names.{IsName}
 use Rattle.vic_survey.specs.SurveyText.{text_of}
 use Rattle.vic_survey.specs.Surveys.{AreSurveys, SurveyValue}
-use Rattle.vic_survey.specs.declared.survey.Field.{Field}
-use Rattle.vic_survey.specs.declared.survey.Field.TheVariants as field
+use Rattle.vic_survey.specs.declared.survey.SurveyedField.{SurveyedField}
+use Rattle.vic_survey.specs.declared.survey.SurveyedField.TheVariants as field
 use Rattle.vic_answer.specs.declared.status.Status.{Status}
 use Rattle.vic_answer.specs.declared.status.Status.TheVariants.{Whole, Impossible, Refused}
 
-abbrev pub is_refused : Field → Bool
+abbrev pub is_refused : SurveyedField → Bool
 is_refused (field.Refused n fault) = true
 is_refused (field.Impossible n) = false
 is_refused (field.Possible s) = false
 
-abbrev pub is_impossible : Field → Bool
+abbrev pub is_impossible : SurveyedField → Bool
 is_impossible (field.Refused n fault) = false
 is_impossible (field.Impossible n) = true
 is_impossible (field.Possible s) = false

@@ -1,9 +1,9 @@
 //! The commands about a collection: a catalogue, a table of places, logs and surveys.
 
-ghost use Rattle.std.specs.Prelude.{◌≡◌, [], ◌∷◌, ◌++◌, ℕ, List, IfOk};
+ghost use Rattle.std.specs.Prelude.{◌≡◌, ◌≤◌, [], ◌∷◌, ◌++◌, ℕ, List, IfOk};
 ghost use Rattle.vic_operands.specs.Gathered.{IsGathered};
 ghost use Rattle.vic_answer.specs.Status.{status_code};
-ghost use Rattle.vic_result.specs.Answered.{answer_status};
+ghost use Rattle.vic_result.specs.Answered.{IsAnswerStatus};
 ghost use Rattle.vic_commands.specs.Collected as spec;
 ghost use Rattle.vic_commands.specs.Commands.{IsOutputBy};
 ghost use Rattle.vic_commands.specs.Taken.{HasTakenFiles, HasTakenForLines, HasTakenForObject, HasTakenForTable};
@@ -13,9 +13,9 @@ use crate::commands::Output;
 use crate::gathering::Gather;
 use std::alloc::{AllocError, Global};
 use vic_answer::{Status, WrittenText};
-use vic_collection::{Collection, CollectionAnswer};
+use vic_collection::Collection;
 use vic_operands::{Gathered, Operands, ReconcileOperands, Refusal};
-use vic_result::{answer_status, lines_text, object_text, table_text};
+use vic_result::{ResultText, lines_text, object_text, table_text};
 use vic_text::push_decimal;
 
 /// In which form a collection is written.
@@ -141,10 +141,9 @@ fn output_of_gathered(alloc: Global, gathered: Gathered, form: Form) -> Result<O
             text: refusal_line(alloc, &refusal)?,
             status: Status::Refused,
         })),
-        Gathered::Collection(collection) => Ok(Output::Answer(WrittenText {
-            text: collection_text(alloc, &collection, form)?,
-            status: collection_status(alloc, &collection)?,
-        })),
+        Gathered::Collection(collection) => {
+            Ok(Output::Answer(written_of(alloc, &collection, form)?))
+        }
     }
 }
 
@@ -163,40 +162,47 @@ fn refusal_line(alloc: Global, refusal: &Refusal) -> Result<Vec<u8>, AllocError>
     Ok(text)
 }
 
-/// What is written of a collection.
-fn collection_text(
-    alloc: Global,
-    collection: &Collection,
-    form: Form,
-) -> Result<Vec<u8>, AllocError>
-    ensures { IfOk result (λ text. spec.IsFormOf form collection.now text.items) }
+/// What is written of a collection, and its status.
+fn written_of(alloc: Global, collection: &Collection, form: Form) -> Result<WrittenText, AllocError>
+    ensures text { IfOk result (λ w. spec.IsFormOf form collection.now w.text.items) }
+    ensures status { IfOk result (λ w. spec.IsStatusOf collection.now w.status) }
+{
+    let written = text_in(alloc, collection, form)?;
+    let status = status_of(written.status);
+    Ok(WrittenText {
+        text: written.text,
+        status,
+    })
+}
+
+/// A collection in a form, with the code of its status.
+fn text_in(alloc: Global, collection: &Collection, form: Form) -> Result<ResultText, AllocError>
+    ensures text { IfOk result (λ r. spec.IsFormOf form collection.now r.text.items) }
+    ensures status { IfOk result (λ r. IsAnswerStatus collection.now r.status) }
 {
     match form {
         Form::Table => table_text(alloc, collection),
         Form::Lines => lines_text(alloc, collection),
-        Form::Object => {
-            let mut text = object_text(alloc, collection)?;
-            text.extend_from_slice(b"\n")?;
-            Ok(text)
-        }
+        Form::Object => object_line(alloc, collection),
     }
 }
 
-/// The status of the answer of a collection.
-fn collection_status(alloc: Global, collection: &Collection) -> Result<Status, AllocError>
-    ensures { IfOk result (spec.IsStatusOf collection.now) }
+/// The object of a collection, in a line.
+fn object_line(alloc: Global, collection: &Collection) -> Result<ResultText, AllocError>
+    ensures text { IfOk result (λ r. spec.IsFormOf Form.Object collection.now r.text.items) }
+    ensures status { IfOk result (λ r. IsAnswerStatus collection.now r.status) }
 {
-    let findings = collection.findings(alloc)?;
-    let answer = findings.answer();
-    Ok(status_of(collection, &answer))
+    let mut object = object_text(alloc, collection)?;
+    object.text.extend_from_slice(b"\n")?;
+    Ok(object)
 }
 
-/// The status of an answer.
-#[tactic(auto, using(crate::proofs::CollectedLaws::small_status))]
-fn status_of(collection: &Collection, answer: &CollectionAnswer<'_>) -> Status
-    ensures { status_code result ≡ answer_status collection.now answer.now }
+/// The status with a code.
+fn status_of(code: u8) -> Status
+    requires { code ≤ 3 }
+    ensures { status_code result ≡ code }
 {
-    match answer_status(collection, answer) {
+    match code {
         0 => Status::Whole,
         1 => Status::NotWhole,
         2 => Status::Impossible,

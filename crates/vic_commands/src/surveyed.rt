@@ -9,7 +9,7 @@ use crate::commands::Output;
 use crate::gathering::Gather;
 use std::alloc::{AllocError, Global};
 use vic_answer::{Status, WrittenText};
-use vic_survey::{Field, Name, Survey, push_survey};
+use vic_survey::{Name, Survey, SurveyedField, push_survey};
 
 /// What `survey` keeps of the logs that it has taken.
 #[derive(Drop)]
@@ -72,14 +72,14 @@ fn with_survey(before: WrittenText, survey: &Survey) -> Result<WrittenText, Allo
 }
 
 /// The status of surveys and of one more that says this.
-fn status_with(before: Status, field: &Field) -> Status
+fn status_with(before: Status, field: &SurveyedField) -> Status
     ensures { (surveys : List SurveyValue) (more : SurveyValue)
         → before ≡ spec.status_of surveys → more.field ≡ field.now
         → result ≡ spec.status_of (surveys ++ more ∷ []) }
 {
     match (before, field) {
-        (Status::Refused, _) | (_, Field::Refused { .. }) => Status::Refused,
-        (Status::Impossible, _) | (_, Field::Impossible { .. }) => Status::Impossible,
-        (_, Field::Possible(_)) => before,
+        (Status::Refused, _) | (_, SurveyedField::Refused { .. }) => Status::Refused,
+        (Status::Impossible, _) | (_, SurveyedField::Impossible { .. }) => Status::Impossible,
+        (_, SurveyedField::Possible(_)) => before,
     }
 }

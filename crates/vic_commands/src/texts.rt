@@ -3,9 +3,9 @@
 ghost use Rattle.std.specs.Prelude.{◌≡◌, ◌≤◌, [], ◌∷◌, ℕ, List, IfOk, MatchOption, length, map, string_bytes};
 ghost use Rattle.std.specs.List.{All};
 ghost use Rattle.std.specs.Str.{IsUtf8};
-ghost use Rattle.vic_answer.specs.CheckText.{IsAnswerText};
+ghost use Rattle.vic_answer.specs.CheckText.{IsCommandText};
 ghost use Rattle.vic_answer.specs.SimulateText.{IsSimulationOf};
-ghost use Rattle.vic_object.specs.Object.{IsObjectOf};
+ghost use Rattle.vic_object.specs.Object.{IsJsonOf};
 ghost use Rattle.vic_commands.specs.Commands as spec;
 
 use crate::collected::{ForLines, ForObject, ForTable};
@@ -34,25 +34,25 @@ pub fn output_of(
         (map string_bytes names.now) (map (λ t. t.now) texts.now))) }
 {
     match command {
-        Command::Check => judged::<Verdict>(alloc, texts),
-        Command::Explain => judged::<Explanation>(alloc, texts),
-        Command::Report => judged::<LogReport>(alloc, texts),
-        Command::Margin => judged::<Margin>(alloc, texts),
-        Command::Simulate => simulated(alloc, texts),
-        Command::Reconcile => gathered::<ForLines>(alloc, names, texts),
-        Command::Frame => framed(alloc, texts),
-        Command::Spell => spelled(alloc, texts),
-        Command::Survey => gathered::<TakenLogs>(alloc, names, texts),
-        Command::Collection => gathered::<ForTable>(alloc, names, texts),
-        Command::Json => objected(alloc, texts),
-        Command::JsonCollection => gathered::<ForObject>(alloc, names, texts),
+        Command::Check => output_of_log::<Verdict>(alloc, texts),
+        Command::Explain => output_of_log::<Explanation>(alloc, texts),
+        Command::Report => output_of_log::<LogReport>(alloc, texts),
+        Command::Margin => output_of_log::<Margin>(alloc, texts),
+        Command::Simulate => output_of_simulate(alloc, texts),
+        Command::Reconcile => output_over_files::<ForLines>(alloc, names, texts),
+        Command::Frame => output_of_frame(alloc, texts),
+        Command::Spell => output_of_spell(alloc, texts),
+        Command::Survey => output_over_files::<TakenLogs>(alloc, names, texts),
+        Command::Collection => output_over_files::<ForTable>(alloc, names, texts),
+        Command::Json => output_of_json(alloc, texts),
+        Command::JsonCollection => output_over_files::<ForObject>(alloc, names, texts),
     }
 }
 
 /// What a command that judges a log writes for texts.
-fn judged<J: LogCommand>(alloc: Global, texts: &[&[u8]]) -> Result<Output, AllocError>
+fn output_of_log<J: LogCommand>(alloc: Global, texts: &[&[u8]]) -> Result<Output, AllocError>
     ensures { IfOk result (spec.IsOutputBy (spec.OfOnly
-        (IsAnswerText J.IsOf J.verdict_of J.text_of) (map (λ t. t.now) texts.now))) }
+        (IsCommandText J.IsOf J.verdict_of J.text_of) (map (λ t. t.now) texts.now))) }
 {
     match only(texts) {
         Some(text) => Ok(Output::Answer(written_text::<J>(alloc, text)?)),
@@ -61,7 +61,7 @@ fn judged<J: LogCommand>(alloc: Global, texts: &[&[u8]]) -> Result<Output, Alloc
 }
 
 /// What `simulate` writes for texts.
-fn simulated(alloc: Global, texts: &[&[u8]]) -> Result<Output, AllocError>
+fn output_of_simulate(alloc: Global, texts: &[&[u8]]) -> Result<Output, AllocError>
     ensures { IfOk result (spec.IsOutputBy (spec.OfOnly IsSimulationOf
         (map (λ t. t.now) texts.now))) }
 {
@@ -72,8 +72,8 @@ fn simulated(alloc: Global, texts: &[&[u8]]) -> Result<Output, AllocError>
 }
 
 /// What `json` writes for texts.
-fn objected(alloc: Global, texts: &[&[u8]]) -> Result<Output, AllocError>
-    ensures { IfOk result (spec.IsOutputBy (spec.OfOnly IsObjectOf
+fn output_of_json(alloc: Global, texts: &[&[u8]]) -> Result<Output, AllocError>
+    ensures { IfOk result (spec.IsOutputBy (spec.OfOnly IsJsonOf
         (map (λ t. t.now) texts.now))) }
 {
     match only(texts) {
@@ -83,7 +83,7 @@ fn objected(alloc: Global, texts: &[&[u8]]) -> Result<Output, AllocError>
 }
 
 /// What `frame` writes for texts.
-fn framed(alloc: Global, texts: &[&[u8]]) -> Result<Output, AllocError>
+fn output_of_frame(alloc: Global, texts: &[&[u8]]) -> Result<Output, AllocError>
     ensures { IfOk result (spec.IsOutputBy (spec.OfOnly spec.IsFrameOf
         (map (λ t. t.now) texts.now))) }
 {
@@ -102,7 +102,7 @@ fn framed(alloc: Global, texts: &[&[u8]]) -> Result<Output, AllocError>
 }
 
 /// What `spell` writes for texts.
-fn spelled(alloc: Global, texts: &[&[u8]]) -> Result<Output, AllocError>
+fn output_of_spell(alloc: Global, texts: &[&[u8]]) -> Result<Output, AllocError>
     ensures { IfOk result (spec.IsOutputBy (spec.IsSpellingOf (map (λ t. t.now) texts.now))) }
 {
     let Some(words) = words_of(alloc, texts)? else {
@@ -120,7 +120,7 @@ fn spelled(alloc: Global, texts: &[&[u8]]) -> Result<Output, AllocError>
 }
 
 /// What a command over many files writes for texts with these names.
-fn gathered<G: Gather>(
+fn output_over_files<G: Gather>(
     alloc: Global,
     names: &[String],
     texts: &[&[u8]],

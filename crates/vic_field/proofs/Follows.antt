@@ -4,10 +4,10 @@ use Rattle.vic_field.proofs.Words.{◌≡◌, ℕ, zero, suc, ◌<◌, ◌≤◌
 -- ---- which UIDs entries list
 
 -- a listed UID has a position
-pub place_of : (es : List Entry) (u : ℕ) → has (listed es) u ≡ true → (i : ℕ) × (slice_get es i ≡ Some (Listed u))
-place_of [] u h = absurd (false≢true h)
-place_of (Listed v ∷ es) u h = ⊎_elim (λ same. (0, ap (λ (w : ℕ). Some (Listed w)) (sym same))) (λ k. let w = place_of es u k in (suc w.0, w.1)) (has_cases u v (listed es) h)
-place_of (e ∷ es) u h = let w = place_of es u h in (suc w.0, w.1)
+pub position_of : (es : List Entry) (u : ℕ) → has (listed es) u ≡ true → (i : ℕ) × (slice_get es i ≡ Some (Listed u))
+position_of [] u h = absurd (false≢true h)
+position_of (Listed v ∷ es) u h = ⊎_elim (λ same. (0, ap (λ (w : ℕ). Some (Listed w)) (sym same))) (λ k. let w = position_of es u k in (suc w.0, w.1)) (has_cases u v (listed es) h)
+position_of (e ∷ es) u h = let w = position_of es u h in (suc w.0, w.1)
 
 -- no UID is listed twice
 abbrev AreOnce : List Entry → Type 0
@@ -20,14 +20,14 @@ listed_different : (es : List Entry) → AreOnce es → ((u : ℕ) → has (list
 listed_different [] once uids = tt
 listed_different (Listed v ∷ es) once uids = (
   uids v (has_here v (listed es)),
-  false_from_ne_true _ (λ h. let w = place_of es v h in once 0 (suc w.0) v v (omega arith) refl w.1 refl),
+  false_from_ne_true _ (λ h. let w = position_of es v h in once 0 (suc w.0) v v (omega arith) refl w.1 refl),
   listed_different es (once_rest (Listed v) es once) (λ u h. uids u (has_there u v (listed es) h)),
 )
 listed_different (e ∷ es) once uids = listed_different es (once_rest e es once) uids
 
 -- the listed UIDs are a population
 pub listed_population : (es : List Entry) → IsInOrder es → AreTyped es → IsPopulation (listed es)
-listed_population es order typed = listed_different es order.once (λ u h. let w = place_of es u h in typed w.0 (Listed u) w.1)
+listed_population es order typed = listed_different es order.once (λ u h. let w = position_of es u h in typed w.0 (Listed u) w.1)
 
 -- slot lines list none
 listed_kept : (es : List Entry) → listed (without_slots es) ≡ listed es
@@ -40,7 +40,7 @@ listed_kept (e ∷ es) = listed_kept es
 -- a UID listed in the filled entries was listed before position i
 listed_before : (given es : List Entry) (i u : ℕ) → without_slots es ≡ take i given → has (listed es) u ≡ true → (j : ℕ) × (j < i) × (slice_get given j ≡ Some (Listed u))
 listed_before given es i u kept h =
-    let w = place_of (take i given) u (ap (λ (xs : List Entry). has (listed xs) u) (sym kept) ∙ (ap (λ (us : List ℕ). has us u) (listed_kept es) ∙ h)) in
+    let w = position_of (take i given) u (ap (λ (xs : List Entry). has (listed xs) u) (sym kept) ∙ (ap (λ (us : List ℕ). has us u) (listed_kept es) ∙ h)) in
     let there = still_there (take i given) (drop i given) w.0 (Listed u) w.1 in
     (w.0, omega (arith, slice_get_within (take i given) w.0 (Listed u) w.1, length-take i given), rw take-append-drop at there)
 

@@ -1,7 +1,7 @@
 mod Words
 pub mod Keys
 pub mod TagLaws
-pub mod PlaceLaws
+pub mod PositionLaws
 pub mod RowLaws
 pub mod FieldRows
 pub mod Numbering

@@ -2,7 +2,7 @@
 use Rattle.vic_field.proofs.Words.{◌≡◌, ℕ, zero, suc, ◌+◌, ◌<◌, ◌≤◌, Bool, true, false, not, ◌&&◌, ◌||◌, List, [], ◌∷◌, ◌++◌, length, Option, Some, None, refl, sym, ap, ◌∙◌, subst, arith, append_assoc, append-nil, length-append, ⊎_elim, slice_get, if◌then◌else◌, option_map, false≢true, Request, BitMask, lies_in, slot_count, mask_in, IsUid, has, Entry, Sent, IsPopulation, is_quiet, is_slot, slots_opened, line_count, slot_line, slot_lines_to, slot_lines, uids, readiness, ready_in, heard, filter-append, filter_agree, answers_at, outcome_of, answerers_at, Fits, CouldHaveGiven, silences, wakes, mask_at, lies_in_some, still_there, last_or, CouldHaveGiven-push, without_slots, HasAllSlots, IsPlain, ArePlain, slice_get-get_or, get_or}
 use Rattle.vic_field.specs.inner.Steps.{ready_after}
 use Rattle.vic_field.proofs.Outcomes.{Tells, outcome_told, fits_told}
-use Rattle.vic_field.proofs.Rounds.{place_in, second_place, slot_line-is_slot, slot_line-plain, slot_lines-slots, slot_lines-length, IsOpen, IsOpen-sent, IsOpen-slots, IsOpen-mask, quiet-next}
+use Rattle.vic_field.proofs.Rounds.{position_in, second_position, slot_line-is_slot, slot_line-plain, slot_lines-slots, slot_lines-length, IsOpen, IsOpen-sent, IsOpen-slots, IsOpen-mask, quiet-next}
 
 -- ---- one entry
 
@@ -91,14 +91,14 @@ slots_next : (es : List Entry) (tags : List (ℕ × Bool)) (e : Entry) → HasAl
 slots_next es tags e h i k q at less = ⊎_elim
     (λ b. let w = h i k q b less in (w.0, still_there es (e ∷ slot_lines tags e) (suc i + k) w.0 w.1, w.2))
     (λ w. behind w.0 w.1 w.2)
-    (place_in es (e ∷ slot_lines tags e) i (Sent q) at) where
+    (position_in es (e ∷ slot_lines tags e) i (Sent q) at) where
       behind : (j : ℕ) → i ≡ length es + j → slice_get (e ∷ slot_lines tags e) j ≡ Some (Sent q) → (x : Entry) × (slice_get (es ++ e ∷ slot_lines tags e) (suc i + k) ≡ Some x) × (is_slot x ≡ true)
-      behind zero place b =
+      behind zero position b =
           let same : e ≡ Sent q = cc in
           let long : length (slot_lines tags e) ≡ slot_count q = slot_lines-length tags e ∙ ap (λ (x : Entry). slots_opened (Some x)) same in
           let there = slice_get-get_or (slot_lines tags e) k e (omega arith) in
-          (get_or (slot_lines tags e) k e, second_place es (e ∷ slot_lines tags e) (suc i + k) (suc k) (omega arith) ∙ there, slot_lines-slots tags e k _ there)
-      behind (suc j) place b = absurd (false≢true (slot_lines-slots tags e j (Sent q) b))
+          (get_or (slot_lines tags e) k e, second_position es (e ∷ slot_lines tags e) (suc i + k) (suc k) (omega arith) ∙ there, slot_lines-slots tags e k _ there)
+      behind (suc j) position b = absurd (false≢true (slot_lines-slots tags e j (Sent q) b))
 
 -- one entry more, with its slots
 pub IsPlayed-next : (p : List ℕ) (done es : List Entry) (tags after : List (ℕ × Bool)) (e : Entry) → IsPopulation p → is_slot e ≡ false → (0 < slots_opened (Some e) → IsPopulation (uids after))

@@ -5,15 +5,15 @@ use Rattle.vic_field.specs.declared.outcome.Outcome.{Outcome as Told}
 -- ---- positions of joined lists
 
 -- a position of two lists is one of the first or one of the second
-pub place_in : (xs ys : List Entry) (i : ℕ) (e : Entry) → slice_get (xs ++ ys) i ≡ Some e → (slice_get xs i ≡ Some e) ⊎ ((j : ℕ) × (i ≡ length xs + j) × (slice_get ys j ≡ Some e))
-place_in [] ys i e h = inr (i, omega arith, h)
-place_in (x ∷ xs) ys zero e h = inl h
-place_in (x ∷ xs) ys (suc i) e h = ⊎_elim (λ k. inl k) (λ k. let same = k.1 in inr (k.0, omega arith, k.2)) (place_in xs ys i e h)
+pub position_in : (xs ys : List Entry) (i : ℕ) (e : Entry) → slice_get (xs ++ ys) i ≡ Some e → (slice_get xs i ≡ Some e) ⊎ ((j : ℕ) × (i ≡ length xs + j) × (slice_get ys j ≡ Some e))
+position_in [] ys i e h = inr (i, omega arith, h)
+position_in (x ∷ xs) ys zero e h = inl h
+position_in (x ∷ xs) ys (suc i) e h = ⊎_elim (λ k. inl k) (λ k. let same = k.1 in inr (k.0, omega arith, k.2)) (position_in xs ys i e h)
 
-pub second_place : (xs ys : List Entry) (i j : ℕ) → i ≡ length xs + j → slice_get (xs ++ ys) i ≡ slice_get ys j
-second_place [] ys i j e = let same : i ≡ j = omega arith in ap (slice_get ys) same
-second_place (x ∷ xs) ys zero j e = absurd (omega arith)
-second_place (x ∷ xs) ys (suc i) j e = second_place xs ys i j (omega arith)
+pub second_position : (xs ys : List Entry) (i j : ℕ) → i ≡ length xs + j → slice_get (xs ++ ys) i ≡ slice_get ys j
+second_position [] ys i j e = let same : i ≡ j = omega arith in ap (slice_get ys) same
+second_position (x ∷ xs) ys zero j e = absurd (omega arith)
+second_position (x ∷ xs) ys (suc i) j e = second_position xs ys i j (omega arith)
 
 pub next_length : (es : List Entry) (e : Entry) → length (es ++ e ∷ []) ≡ suc (length es)
 next_length es e = length-append es (e ∷ []) ∙ omega arith
@@ -48,17 +48,17 @@ slot_lines-length tags x = refl
 
 -- k slots of the request q are told, and the next one comes
 pub record IsOpen (es : List Entry) (q : Request) (k : ℕ) : Type 0 where
-  pub place : ℕ
-  pub opened : opener es (length es) ≡ Some place
-  pub sent : slice_get es place ≡ Some (Sent q)
-  pub count : length es ≡ suc place + k
+  pub position : ℕ
+  pub opened : opener es (length es) ≡ Some position
+  pub sent : slice_get es position ≡ Some (Sent q)
+  pub count : length es ≡ suc position + k
 
 opener-next : (es : List Entry) (e : Entry) → opener (es ++ e ∷ []) (length (es ++ e ∷ [])) ≡ (if ends_round (Some e) then Some (length es) else opener es (length es))
 opener-next es e = rw (next_length es e, slice_get_last es e, ← (opener_agrees (length es) es (es ++ e ∷ []) (agree_append es (e ∷ [])))) refl
 
 pub IsOpen-sent : (es : List Entry) (q : Request) → IsOpen (es ++ Sent q ∷ []) q 0
 IsOpen-sent es q = record {
-  place = length es;
+  position = length es;
   opened = opener-next es (Sent q);
   sent = slice_get_last es (Sent q);
   count = let h = next_length es (Sent q) in omega arith;
@@ -69,11 +69,11 @@ slot_stays e h = grind arith
 
 pub IsOpen-slot : (es : List Entry) (q : Request) (k : ℕ) (e : Entry) → IsOpen es q k → is_slot e ≡ true → IsOpen (es ++ e ∷ []) q (suc k)
 IsOpen-slot es q k e o h =
-    let within = slice_get_within es o.place (Sent q) o.sent in
+    let within = slice_get_within es o.position (Sent q) o.sent in
     record {
-      place = o.place;
+      position = o.position;
       opened = opener-next es e ∙ (ap (λ b. if b then Some (length es) else opener es (length es)) (slot_stays e h) ∙ o.opened);
-      sent = sym (agree_append es (e ∷ []) o.place within) ∙ o.sent;
+      sent = sym (agree_append es (e ∷ []) o.position within) ∙ o.sent;
       count = let n = next_length es e in let c = o.count in omega arith;
     }
 
@@ -87,7 +87,7 @@ IsOpen-slots es q tags (suc n) o =
 -- the mask of the next slot
 pub IsOpen-mask : (es : List Entry) (q : Request) (k : ℕ) → IsOpen es q k → k < slot_count q → mask_at es (length es) ≡ Some (mask_in q k)
 IsOpen-mask es q k o h =
-    let at : length es - suc o.place ≡ k = omega (arith, o.count) in
+    let at : length es - suc o.position ≡ k = omega (arith, o.count) in
     rw (o.opened, o.sent, at, lt-ltb k (slot_count q) h) refl
 
 slot_follows : (es : List Entry) (e : Entry) → is_slot e ≡ true → nat_lt 0 (slots_left es (length es)) ≡ true → refusal es e ≡ None
@@ -96,7 +96,7 @@ slot_follows es e s h = grind arith
 -- a slot line may follow where a slot is left
 pub IsOpen-follows : (es : List Entry) (q : Request) (k : ℕ) (e : Entry) → IsOpen es q k → k < slot_count q → is_slot e ≡ true → refusal es e ≡ None
 IsOpen-follows es q k e o h s =
-    let left : slots_left es (length es) ≡ slot_count q - (length es - suc o.place) = rw (o.opened, o.sent) refl in
+    let left : slots_left es (length es) ≡ slot_count q - (length es - suc o.position) = rw (o.opened, o.sent) refl in
     slot_follows es e s (lt-ltb 0 (slots_left es (length es)) (omega (arith, left, o.count)))
 
 -- ---- Quiet tags

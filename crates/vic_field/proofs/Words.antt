@@ -44,12 +44,12 @@ pub use Rattle.vic_log.specs.declared.entry.Entry.{Entry}
 pub use Rattle.vic_log.specs.declared.entry.Entry.TheVariants.{FieldCycle, Listed, Sent}
 pub use Rattle.vic_log.specs.declared.entry.LogLine.{LogLine}
 pub use Rattle.vic_log.specs.declared.entry.TheConstants.{MAX_LINES}
-pub use Rattle.vic_field.specs.Keys.{AreKeys, AreKeysOf, ready_between, tags_of, uids_at}
+pub use Rattle.vic_field.specs.Keys.{AreRisingKeys, AreKeysOfEach, ready_between, tags_of, uids_at}
 pub use Rattle.vic_field.specs.Bits.{AreUpTo, HasBitMore, HasBits, IsFull, IsSound, NotesFull, blank, is_set}
-pub use Rattle.vic_field.specs.Places.{HasRoomFor, is_quiet_place}
+pub use Rattle.vic_field.specs.Positions.{HasRoomFor, is_quiet_position}
 pub use Rattle.vic_field.specs.Rows.{tag_at, tags_with}
 pub use Rattle.vic_field.specs.Simulation.{ArePlain, HasAllSlots, HasNoSlotsBefore, IsPlain, IsSimulation, last_needed, line_count, without_slots}
 pub use Rattle.vic_field.specs.Tags.{heard, readiness, ready_in, uids}
 pub use Rattle.vic_field.specs.declared.row.Row.{Row}
-pub use Rattle.vic_field.specs.inner.Rows.{HasKeyPlaceBetween, HasNoneReady, IsKeyPlace, IsNextReady, as_ready, with_quiet}
+pub use Rattle.vic_field.specs.inner.Rows.{HasKeyPositionBetween, HasNoneReady, IsKeyPosition, IsNextReady, as_ready, with_quiet}
 pub use Rattle.vic_field.specs.inner.Steps.{slot_line, slot_lines, slot_lines_to, with_entries}

@@ -30,10 +30,10 @@ abbrev pub AreUpTo : ℕ → List Word → Type 0
 AreUpTo s ws = All (λ w. w.stretch ≤ s) ws
 
 -- full words and full groups are noted, and no word belongs to a later stretch than s
-pub record IsSound (s : ℕ) (places words groups : List Word) : Type 0 where
-  pub full_words : NotesFull s places words
+pub record IsSound (s : ℕ) (positions words groups : List Word) : Type 0 where
+  pub full_words : NotesFull s positions words
   pub full_groups : NotesFull s words groups
-  pub places_up_to : AreUpTo s places
+  pub positions_up_to : AreUpTo s positions
   pub words_up_to : AreUpTo s words
   pub groups_up_to : AreUpTo s groups
 

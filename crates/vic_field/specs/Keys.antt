@@ -6,7 +6,7 @@ use Rattle.std.specs.List.Sorted.{IsStrictlySortedBy}
 use Rattle.vic_frame.specs.LowBitsFirst.{IsKey, uid_of}
 
 -- rising keys of 56 bits
-pub record AreKeys (ks : List ℕ) : Type 0 where
+pub record AreRisingKeys (ks : List ℕ) : Type 0 where
   pub small : All IsKey ks
   pub rising : IsStrictlySortedBy nat_cmp ks
 
@@ -23,7 +23,7 @@ ready_between a b es =
 abbrev pub uids_at : List ℕ → List ℕ
 uids_at ks = map uid_of ks
 
--- the keys of 56 bits of these UIDs
-pub record AreKeysOf (us ks : List ℕ) : Type 0 where
+-- the keys of these UIDs, in the order of the UIDs
+pub record AreKeysOfEach (us ks : List ℕ) : Type 0 where
   pub uids : uids_at ks ≡ us
   pub small : All IsKey ks

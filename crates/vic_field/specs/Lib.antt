@@ -1,7 +1,7 @@
 pub mod Tags
 pub mod Keys
 pub mod Bits
-pub mod Places
+pub mod Positions
 pub mod Rows
 pub mod Simulation
 pub mod inner

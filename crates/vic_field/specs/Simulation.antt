@@ -65,12 +65,12 @@ HasNoSlots lines = HasNoSlotsBefore (length lines) lines
 
 -- the first slot line has the number n
 pub record IsFirstSlot (lines : List LogLine) (n : ℕ) : Type 0 where
-  pub place : ℕ
+  pub position : ℕ
   pub line : LogLine
-  pub here : slice_get lines place ≡ Some line
+  pub here : slice_get lines position ≡ Some line
   pub number : line.number ≡ n
   pub tells : is_slot line.item ≡ true
-  pub first : HasNoSlotsBefore place lines
+  pub first : HasNoSlotsBefore position lines
 
 -- why lines aren't simulated: one is a slot line; else more lines would be needed than a log may
 -- have; else memory was refused

@@ -1,4 +1,4 @@
 -- Definitions that private contracts alone cite.
-pub mod Places
+pub mod Positions
 pub mod Rows
 pub mod Steps

@@ -3,7 +3,7 @@
 ghost use Rattle.std.specs.Prelude.{◌≡◌, ℕ, ◌==◌, [], true, false, IfOk, MatchResult, OnOk, OnErr};
 ghost use Rattle.std.specs.Option.{option_map};
 ghost use Rattle.vic_log.specs.Populations.{IsPopulation};
-ghost use Rattle.vic_field.specs.Keys.{AreKeys, uids_at};
+ghost use Rattle.vic_field.specs.Keys.{AreRisingKeys, uids_at};
 ghost use Rattle.vic_field.specs.Tags.{uids, readiness, ready_in, quiets, heard, RefusesTag, HasAdded, HasSilenced};
 ghost use Rattle.vic_frame.specs.LowBitsFirst.{uid_of};
 ghost use Rattle.vic_frame.specs.Uids.{has};
@@ -11,7 +11,7 @@ ghost use Rattle.vic_frame.specs.Uids.{has};
 use crate::hear::hear;
 use crate::index::Index;
 use crate::outcome::Outcome;
-use crate::quiet::QuietPlaces;
+use crate::quiet::QuietPositions;
 use crate::row::Row;
 use std::alloc::{AllocError, Global};
 use std::marker::Model;
@@ -62,7 +62,7 @@ impl Field {
         Field {
             row: Row {
                 keys: Vec::new(alloc),
-                quiet: QuietPlaces::new(alloc),
+                quiet: QuietPositions::new(alloc),
                 index: Index::new(alloc),
             },
         }
@@ -70,10 +70,10 @@ impl Field {
 
     /// A field of the tags with these keys, all Ready.
     pub(crate) fn of_keys(alloc: Global, keys: Vec<u64>) -> Result<Field, AllocError>
-        requires { AreKeys keys.items }
+        requires { AreRisingKeys keys.items }
         ensures { IfOk result (HasAdded (has (uids_at keys.items)) []) }
     {
-        let quiet = QuietPlaces::over(alloc, keys.len())?;
+        let quiet = QuietPositions::over(alloc, keys.len())?;
         let index = Index::over(alloc, &keys)?;
         Ok(Field {
             row: Row { keys, quiet, index },

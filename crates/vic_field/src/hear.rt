@@ -13,7 +13,7 @@ use vic_frame::low_bits_first::uid_at;
 pub(crate) fn hear(row: &Row, first: u64, last: u64) -> Outcome
     ensures { result ≡ heard (ready_between first last (entries row.now)) }
 {
-    let Some(one) = row.next_ready(row.place_of(first), last) else {
+    let Some(one) = row.next_ready(row.position_of(first), last) else {
         return Outcome::Silent;
     };
     match row.next_ready(one + 1, last) {

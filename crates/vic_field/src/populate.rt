@@ -1,7 +1,7 @@
 //! A field of the tags that lines list.
 
 ghost use Rattle.std.specs.Prelude.{◌++◌, ◌∷◌, [], IfOk, OnOk, List, ℕ};
-ghost use Rattle.vic_field.specs.Keys.{AreKeysOf};
+ghost use Rattle.vic_field.specs.Keys.{AreKeysOfEach};
 ghost use Rattle.vic_field.specs.Tags.{HasAdded};
 ghost use Rattle.vic_frame.specs.Uids.{has};
 ghost use Rattle.vic_log.specs.Order.{entries, listed};
@@ -23,7 +23,7 @@ pub(crate) fn populate(alloc: Global, lines: &[PackedLine]) -> Result<Field, All
 
 /// The keys of the listed UIDs.
 fn listed_keys(alloc: Global, lines: &[PackedLine]) -> Result<Vec<u64>, AllocError>
-    ensures { IfOk result (λ keys. AreKeysOf (listed (entries lines.now)) keys.items) }
+    ensures { IfOk result (λ keys. AreKeysOfEach (listed (entries lines.now)) keys.items) }
 {
     let mut keys = Vec::new(alloc);
     for line in lines {
@@ -34,8 +34,8 @@ fn listed_keys(alloc: Global, lines: &[PackedLine]) -> Result<Vec<u64>, AllocErr
 
 /// Adds the key of the UID that an entry lists, if it lists one.
 fn push_listed(keys: &mut Vec<u64>, item: &Entry) -> Result<(), AllocError>
-    ensures { OnOk result ((us : List ℕ) → AreKeysOf us keys.old.items
-        → AreKeysOf (us ++ listed (item.now ∷ [])) keys.new.items) }
+    ensures { OnOk result ((us : List ℕ) → AreKeysOfEach us keys.old.items
+        → AreKeysOfEach (us ++ listed (item.now ∷ [])) keys.new.items) }
 {
     match *item {
         Entry::Listed(uid) => keys.push(low_bits_first::key(uid).number())?,

@@ -31,26 +31,26 @@ const BLANK: Word = Word {
 
 /// Which positions are Quiet.
 #[derive(Drop)]
-pub(crate) struct QuietPlaces {
+pub(crate) struct QuietPositions {
     /// A bit for each position, set if it is Quiet.
-    pub(crate) places: Vec<Word>,
-    /// A bit for each word of `places`, set if all bits of that word are.
+    pub(crate) positions: Vec<Word>,
+    /// A bit for each word of `positions`, set if all bits of that word are.
     pub(crate) full_words: Vec<Word>,
     /// A bit for each word of `full_words`, set if all bits of that word are.
     pub(crate) full_groups: Vec<Word>,
     /// The number of the stretch between two field cycles, from 1.
     pub(crate) stretch: u32,
-    ghost sound: { IsSound stretch places.items full_words.items full_groups.items },
+    ghost sound: { IsSound stretch positions.items full_words.items full_groups.items },
 }
 
-impl QuietPlaces {
-    ghost use Rattle.vic_field.specs.Places.{HasRoomFor, is_quiet_place};
-    ghost use Rattle.vic_field.specs.inner.Places.{IsMoved};
+impl QuietPositions {
+    ghost use Rattle.vic_field.specs.Positions.{HasRoomFor, is_quiet_position};
+    ghost use Rattle.vic_field.specs.inner.Positions.{IsMoved};
 
     /// Without positions.
-    pub(crate) fn new(alloc: Global) -> QuietPlaces {
-        QuietPlaces {
-            places: Vec::new(alloc),
+    pub(crate) fn new(alloc: Global) -> QuietPositions {
+        QuietPositions {
+            positions: Vec::new(alloc),
             full_words: Vec::new(alloc),
             full_groups: Vec::new(alloc),
             stretch: 1,
@@ -58,69 +58,69 @@ impl QuietPlaces {
     }
 
     /// That many positions, none of them Quiet.
-    pub(crate) fn over(alloc: Global, count: usize) -> Result<QuietPlaces, AllocError>
+    pub(crate) fn over(alloc: Global, count: usize) -> Result<QuietPositions, AllocError>
         ensures room { IfOk result (HasRoomFor count) }
-        ensures none { IfOk result (λ q. (k : ℕ) → is_quiet_place q k ≡ false) }
+        ensures none { IfOk result (λ q. (k : ℕ) → is_quiet_position q k ≡ false) }
     {
-        Ok(QuietPlaces {
-            places: vec![in alloc; BLANK; count / WORD + 1]?,
+        Ok(QuietPositions {
+            positions: vec![in alloc; BLANK; count / WORD + 1]?,
             full_words: vec![in alloc; BLANK; count / GROUP + 1]?,
             full_groups: vec![in alloc; BLANK; count / CLUSTER + 1]?,
             stretch: 1,
         })
     }
 
-    /// At least this many positions from `place` on are Quiet: none if it is Ready, at least a word
-    /// if a full word begins here, at least a group if a full group does.
-    #[tactic(auto, using(crate::proofs::PlaceLaws::unnoted))]
-    pub(crate) fn run_from(&self, place: usize) -> usize
-        ensures quiet { (k : ℕ) → place ≤ k → k < place + result
-            → is_quiet_place self.now k ≡ true }
-        ensures ready { result ≡ 0 → is_quiet_place self.now place ≡ false }
-        ensures word { place % WORD ≡ 0 → place / WORD < length self.now.places.items
-            → IsFull self.now.stretch self.now.places.items (place / WORD) → WORD ≤ result }
-        ensures group { place % GROUP ≡ 0 → place / GROUP < length self.now.full_words.items
-            → IsFull self.now.stretch self.now.full_words.items (place / GROUP)
+    /// At least this many positions from `position` on are Quiet: none if it is Ready, at least a
+    /// word if a full word begins here, at least a group if a full group does.
+    #[tactic(auto, using(crate::proofs::PositionLaws::unnoted))]
+    pub(crate) fn run_from(&self, position: usize) -> usize
+        ensures quiet { (k : ℕ) → position ≤ k → k < position + result
+            → is_quiet_position self.now k ≡ true }
+        ensures ready { result ≡ 0 → is_quiet_position self.now position ≡ false }
+        ensures word { position % WORD ≡ 0 → position / WORD < length self.now.positions.items
+            → IsFull self.now.stretch self.now.positions.items (position / WORD) → WORD ≤ result }
+        ensures group { position % GROUP ≡ 0 → position / GROUP < length self.now.full_words.items
+            → IsFull self.now.stretch self.now.full_words.items (position / GROUP)
             → GROUP ≤ result }
         ensures most { result ≤ CLUSTER }
     {
-        if place % GROUP == 0 {
-            let groups = run_in(&self.full_groups, self.stretch, place / GROUP);
+        if position % GROUP == 0 {
+            let groups = run_in(&self.full_groups, self.stretch, position / GROUP);
             if groups > 0 {
                 return groups * GROUP;
             }
         }
-        if place % WORD == 0 {
-            let words = run_in(&self.full_words, self.stretch, place / WORD);
+        if position % WORD == 0 {
+            let words = run_in(&self.full_words, self.stretch, position / WORD);
             if words > 0 {
                 return words * WORD;
             }
         }
-        run_in(&self.places, self.stretch, place)
+        run_in(&self.positions, self.stretch, position)
     }
 
     /// Makes a position Quiet.
-    pub(crate) fn add(&mut self, place: usize)
-        requires { place < length self.old.places.items * WORD }
-        ensures room { length self.new.places.items ≡ length self.old.places.items }
-        ensures added { (k : ℕ) → is_quiet_place self.new k
-            ≡ (nat_eq k place || is_quiet_place self.old k) }
+    pub(crate) fn add(&mut self, position: usize)
+        requires { position < length self.old.positions.items * WORD }
+        ensures room { length self.new.positions.items ≡ length self.old.positions.items }
+        ensures added { (k : ℕ) → is_quiet_position self.new k
+            ≡ (nat_eq k position || is_quiet_position self.old k) }
     {
-        if !set(&mut self.places, self.stretch, place) {
+        if !set(&mut self.positions, self.stretch, position) {
             return;
         }
-        if set(&mut self.full_words, self.stretch, place / WORD) {
-            set(&mut self.full_groups, self.stretch, place / GROUP);
+        if set(&mut self.full_words, self.stretch, position / WORD) {
+            set(&mut self.full_groups, self.stretch, position / GROUP);
         }
     }
 
     /// Makes every position Ready.
     pub(crate) fn wake(&mut self)
-        ensures room { length self.new.places.items ≡ length self.old.places.items }
-        ensures none { (k : ℕ) → is_quiet_place self.new k ≡ false }
+        ensures room { length self.new.positions.items ≡ length self.old.positions.items }
+        ensures none { (k : ℕ) → is_quiet_position self.new k ≡ false }
     {
         if self.stretch == u32::MAX {
-            forget(&mut self.places);
+            forget(&mut self.positions);
             forget(&mut self.full_words);
             forget(&mut self.full_groups);
             self.stretch = 0;
@@ -130,16 +130,16 @@ impl QuietPlaces {
 
     /// The same with one more position, so that there are `count`: `gap` is new and Ready, and what
     /// was at `gap` or after it has moved by one.
-    pub(crate) fn with_gap(&self, gap: usize, count: usize) -> Result<QuietPlaces, AllocError>
+    pub(crate) fn with_gap(&self, gap: usize, count: usize) -> Result<QuietPositions, AllocError>
         requires { gap < count }
         ensures room { IfOk result (HasRoomFor count) }
         ensures moved { IfOk result (IsMoved gap count self.now) }
     {
-        let mut moved = QuietPlaces::over(*self.places.allocator(), count)?;
+        let mut moved = QuietPositions::over(*self.positions.allocator(), count)?;
         for next in 1..count {
-            let place = next - 1;
-            if self.run_from(place) > 0 {
-                moved.add(if place < gap { place } else { next });
+            let position = next - 1;
+            if self.run_from(position) > 0 {
+                moved.add(if position < gap { position } else { next });
             }
         }
         Ok(moved)

@@ -2,12 +2,12 @@
 
 ghost use Rattle.std.specs.Prelude.{◌≡◌, true, false, None, IfSome, OnOk, OnErr, length};
 ghost use Rattle.std.proofs.Props.{props};
-ghost use Rattle.vic_field.specs.Keys.{AreKeys};
-ghost use Rattle.vic_field.specs.Places.{HasRoomFor};
+ghost use Rattle.vic_field.specs.Keys.{AreRisingKeys};
+ghost use Rattle.vic_field.specs.Positions.{HasRoomFor};
 ghost use Rattle.vic_frame.specs.Uids.{has};
 
 use crate::index::Index;
-use crate::quiet::QuietPlaces;
+use crate::quiet::QuietPositions;
 use std::alloc::AllocError;
 use vic_frame::low_bits_first::UidKey;
 
@@ -17,36 +17,36 @@ pub(crate) struct Row {
     /// The keys of the tags, lowest first: the position of a tag is that of its key.
     pub(crate) keys: Vec<u64>,
     /// The positions of the Quiet ones.
-    pub(crate) quiet: QuietPlaces,
+    pub(crate) quiet: QuietPositions,
     /// A hint of where a key is, which `put` leaves as it is.
     pub(crate) index: Index,
-    ghost rising: { AreKeys keys.items } by { Prim.hlevel props },
+    ghost rising: { AreRisingKeys keys.items } by { Prim.hlevel props },
     ghost room: { HasRoomFor (length keys.items) quiet },
 }
 
 impl Row {
     ghost use Rattle.vic_field.specs.Rows.{entries};
-    ghost use Rattle.vic_field.specs.inner.Rows.{HasKeyPlaceBetween, HasMore, HasNoneReady, IsKeyPlace, IsNextReady, as_ready, with_quiet};
+    ghost use Rattle.vic_field.specs.inner.Rows.{HasKeyPositionBetween, HasMore, HasNoneReady, IsKeyPosition, IsNextReady, as_ready, with_quiet};
 
     /// The position of the first Ready tag from a position on, if its key is at most `last`.
     pub(crate) fn next_ready(&self, from: usize, last: u64) -> Option<usize>
         ensures none { result ≡ None → HasNoneReady self.now from last }
-        ensures some { IfSome result (λ place. IsNextReady self.now from last place) }
+        ensures some { IfSome result (λ position. IsNextReady self.now from last position) }
     {
-        let mut place = from;
-        while place < self.keys.len() && self.keys[place] <= last {
-            let quiet = self.quiet.run_from(place);
+        let mut position = from;
+        while position < self.keys.len() && self.keys[position] <= last {
+            let quiet = self.quiet.run_from(position);
             if quiet == 0 {
-                return Some(place);
+                return Some(position);
             }
-            place += quiet;
+            position += quiet;
         }
         None
     }
 
     /// Whether a check shows that at least `from` and at most `to` of the keys are below this one.
     fn is_between(&self, key: u64, from: usize, to: usize) -> bool
-        ensures { result ≡ true → HasKeyPlaceBetween key self.now.keys.items from to }
+        ensures { result ≡ true → HasKeyPositionBetween key self.now.keys.items from to }
     {
         let keys = self.keys.as_slice();
         if to < from || keys.len() < to {
@@ -58,7 +58,7 @@ impl Row {
     /// How many keys are below this one, at least and at most: what the index says, or none and all
     /// if its hint is wrong.
     fn bounds(&self, key: u64) -> (usize, usize)
-        ensures { HasKeyPlaceBetween key self.now.keys.items result.0 result.1 }
+        ensures { HasKeyPositionBetween key self.now.keys.items result.0 result.1 }
     {
         let (from, to) = self.index.hint(key);
         if self.is_between(key, from, to) {
@@ -69,8 +69,8 @@ impl Row {
     }
 
     /// How many of the keys are below this one: its position, if it is there.
-    pub(crate) fn place_of(&self, key: u64) -> usize
-        ensures { IsKeyPlace key self.now.keys.items result }
+    pub(crate) fn position_of(&self, key: u64) -> usize
+        ensures { IsKeyPosition key self.now.keys.items result }
     {
         let (from, to) = self.bounds(key);
         from + self.keys[from..to].partition_point(|other| *other < key)
@@ -81,9 +81,9 @@ impl Row {
         ensures { entries self.new ≡ with_quiet key (entries self.old) }
     {
         let key = key.number();
-        let place = self.place_of(key);
-        if place < self.keys.len() && self.keys[place] == key {
-            self.quiet.add(place);
+        let position = self.position_of(key);
+        if position < self.keys.len() && self.keys[position] == key {
+            self.quiet.add(position);
         }
     }
 
@@ -99,8 +99,8 @@ impl Row {
         ensures { result ≡ has self.now.keys.items key }
     {
         let key = key.number();
-        let place = self.place_of(key);
-        place < self.keys.len() && self.keys[place] == key
+        let position = self.position_of(key);
+        position < self.keys.len() && self.keys[position] == key
     }
 
     /// Adds the tag with this key, which isn't there yet. It is Ready.
@@ -110,9 +110,9 @@ impl Row {
         ensures unchanged { OnErr result (entries self.new ≡ entries self.old) }
     {
         let key = key.number();
-        let place = self.place_of(key);
-        let quiet = self.quiet.with_gap(place, self.keys.len() + 1)?;
-        self.keys.insert(place, key)?;
+        let position = self.position_of(key);
+        let quiet = self.quiet.with_gap(position, self.keys.len() + 1)?;
+        self.keys.insert(position, key)?;
         self.quiet = quiet;
         Ok(())
     }

@@ -2,14 +2,15 @@
 
 ghost use Rattle.std.specs.Prelude.{◌≤◌, IfSome, length};
 
-use crate::steps::{Step, steps_of};
+use crate::effects::{Effect, effects_of};
 use crate::waiting::Waiting;
 use std::alloc::{AllocError, Global};
 use vic_log::PackedLine;
 use vic_walk::{Answering, LogLines, LogWalk, Parts, Span, open_answers, walk_log};
 
 /// A guess at lines that contradict each other, in a log that became impossible with its last line:
-/// that one, and as few of those before it as needed. Their numbers, in no order.
+/// that one, and as few of those before it as needed. Their numbers, in no order. The front page of
+/// the crate has an example.
 pub fn guess_conflict(alloc: Global, log: &LogLines) -> Result<Vec<u32>, AllocError> {
     let LogWalk {
         log_parts,
@@ -18,15 +19,15 @@ pub fn guess_conflict(alloc: Global, log: &LogLines) -> Result<Vec<u32>, AllocEr
         broken,
     } = walk_log(alloc, log)?;
     let lines = log.as_slice();
-    let steps = steps_of(alloc, lines, &log_parts)?;
+    let effects = effects_of(alloc, lines, &log_parts)?;
     let mut numbers = match broken {
-        Some(_) => match other_line(lines, &steps, &ends) {
+        Some(_) => match other_line(lines, &effects, &ends) {
             Some(other) => vec![in alloc; other]?,
             None => Vec::new(alloc),
         },
         None => {
             let found = open_answers(alloc, log, &log_parts, open)?;
-            lines_of_lack(alloc, lines, &steps, &log_parts.parts, &found)?
+            lines_of_lack(alloc, lines, &effects, &log_parts.parts, &found)?
         }
     };
     if let Some(last) = lines.last() {
@@ -37,10 +38,10 @@ pub fn guess_conflict(alloc: Global, log: &LogLines) -> Result<Vec<u32>, AllocEr
 
 /// The line that the last one contradicts, unless its reply doesn't fit its own slot: the first
 /// that rules out the UID that it heard; else the first reply of a UID that it rules out.
-fn other_line(lines: &[PackedLine], steps: &[Step], ends: &[u32]) -> Option<u32> {
-    let (span, own) = match *steps.last()? {
-        Step::Ruling(_, span, own) | Step::Captured(_, span, own) => (span, own),
-        Step::Quiet(_) | Step::Wake | Step::Unread(..) => return None,
+fn other_line(lines: &[PackedLine], effects: &[Effect], ends: &[u32]) -> Option<u32> {
+    let (span, own) = match *effects.last()? {
+        Effect::Ruling(_, span, own) | Effect::Captured(_, span, own) => (span, own),
+        Effect::Quiet(_) | Effect::Wake | Effect::Unread(..) => return None,
     };
     if lines.last()?.item().heard().is_some() {
         if !span.has(own) {
@@ -51,8 +52,8 @@ fn other_line(lines: &[PackedLine], steps: &[Step], ends: &[u32]) -> Option<u32>
             return Some(lines.get(end - 1)?.number());
         }
     }
-    for step in steps {
-        if let Step::Ruling(line, span, heard) | Step::Captured(line, span, heard) = *step {
+    for effect in effects {
+        if let Effect::Ruling(line, span, heard) | Effect::Captured(line, span, heard) = *effect {
             if heard < span.to && *ends.get(heard)? as usize == lines.len() {
                 return Some(line);
             }
@@ -66,13 +67,13 @@ fn other_line(lines: &[PackedLine], steps: &[Step], ends: &[u32]) -> Option<u32>
 fn lines_of_lack(
     alloc: Global,
     lines: &[PackedLine],
-    steps: &[Step],
+    effects: &[Effect],
     parts: &Parts,
     found: &[Answering],
 ) -> Result<Vec<u32>, AllocError> {
     for one in found {
         if one.uids.len() < one.need {
-            let mut numbers = rulings(alloc, steps, parts, one)?;
+            let mut numbers = rulings(alloc, effects, parts, one)?;
             if let Some(line) = lines.get(one.at) {
                 numbers.push(line.number())?;
             }
@@ -82,12 +83,12 @@ fn lines_of_lack(
     Ok(Vec::new(alloc))
 }
 
-/// The step of the unread slot at a position: its index, and the parts in its mask.
-fn step_at(steps: &[Step], position: usize) -> Option<(usize, Span)>
-    ensures { IfSome result (λ r. r.0 ≤ length steps.now) }
+/// The effect of the unread slot at a position: its index, and the parts in its mask.
+fn effect_at(effects: &[Effect], position: usize) -> Option<(usize, Span)>
+    ensures { IfSome result (λ r. r.0 ≤ length effects.now) }
 {
-    for (index, step) in steps.iter().enumerate() {
-        if let Step::Unread(at, span) = *step {
+    for (index, effect) in effects.iter().enumerate() {
+        if let Effect::Unread(at, span) = *effect {
             if at == position {
                 return Some((index, span));
             }
@@ -105,34 +106,35 @@ fn weight(parts: &Parts, part: usize) -> usize {
     }
 }
 
-/// The lines that are needed to rule out all but fewer of the UIDs that answer in an unread slot
-/// than it needs. One is left out if those kept before it, and all after it, rule out enough.
+/// The lines that are needed so that fewer UIDs are left for an unread slot than it needs. One is
+/// left out if those kept before it, and all after it, rule out enough: that is so if no more UIDs
+/// than may be left (`spare`) wait for it as the last line that rules them out (`alone`).
 fn rulings(
     alloc: Global,
-    steps: &[Step],
+    effects: &[Effect],
     parts: &Parts,
     lack: &Answering,
 ) -> Result<Vec<u32>, AllocError> {
     let mut kept = Vec::new(alloc);
-    let Some((index, span)) = step_at(steps, lack.at) else {
+    let Some((index, span)) = effect_at(effects, lack.at) else {
         return Ok(kept);
     };
-    let mut waiting = Waiting::new(alloc, parts.count(), span, &steps[..index])?;
-    let (mut spare, alone) = ruled_alone(alloc, steps, parts, &waiting, span, lack.need)?;
+    let mut waiting = Waiting::new(alloc, parts.count(), span, &effects[..index])?;
+    let (mut spare, alone) = ruled_alone(alloc, effects, parts, &waiting, span, lack.need)?;
     let mut quiet = Vec::new(alloc);
     let mut next = 0;
-    for step in steps {
-        match *step {
-            Step::Quiet(part) => {
+    for effect in effects {
+        match *effect {
+            Effect::Quiet(part) => {
                 waiting.hide(part);
                 quiet.push(part)?;
             }
-            Step::Wake => {
+            Effect::Wake => {
                 waiting.show_all(&quiet);
                 quiet.clear();
             }
-            Step::Captured(..) | Step::Unread(..) => {}
-            Step::Ruling(line, ruled, own) => {
+            Effect::Captured(..) | Effect::Unread(..) => {}
+            Effect::Ruling(line, ruled, own) => {
                 let (count, after) = count_alone(&alone, next, line, parts, &waiting);
                 next = after;
                 if count <= spare {
@@ -151,13 +153,13 @@ fn rulings(
 /// each after the last line that rules it out.
 fn ruled_alone(
     alloc: Global,
-    steps: &[Step],
+    effects: &[Effect],
     parts: &Parts,
     waiting: &Waiting,
     span: Span,
     need: usize,
 ) -> Result<(usize, Vec<(u32, usize)>), AllocError> {
-    let last = waiting.last_rulings(alloc, steps)?;
+    let last = waiting.last_rulings(alloc, effects)?;
     let mut spare = need.saturating_sub(1);
     let mut alone = Vec::new(alloc);
     for part in span.from..span.to {

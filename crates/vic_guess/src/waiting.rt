@@ -2,7 +2,7 @@
 
 ghost use Rattle.std.specs.Prelude.{◌≡◌, length};
 
-use crate::steps::Step;
+use crate::effects::Effect;
 use std::alloc::{AllocError, Global};
 use vic_walk::{Marks, Span};
 
@@ -26,19 +26,19 @@ impl Waiting {
         })
     }
 
-    /// Of so many parts those of a span, all Ready, except for those that some steps silenced since
-    /// all were last made Ready.
+    /// Of so many parts those of a span, all Ready, except for those that some effects silenced
+    /// since all were last made Ready.
     pub(crate) fn new(
         alloc: Global,
         count: usize,
         span: Span,
-        steps: &[Step],
+        effects: &[Effect],
     ) -> Result<Waiting, AllocError> {
         let mut waiting = Waiting::none(alloc, count)?;
         for part in span.from..span.to {
             waiting.add(part);
         }
-        waiting.hide_last(steps);
+        waiting.hide_last(effects);
         waiting.leave_ready();
         Ok(waiting)
     }
@@ -97,13 +97,13 @@ impl Waiting {
         }
     }
 
-    /// Makes those parts Quiet that some steps silenced since all were last made Ready.
-    fn hide_last(&mut self, steps: &[Step]) {
-        for step in steps.iter().rev() {
-            match *step {
-                Step::Quiet(part) => self.hide(part),
-                Step::Wake => return,
-                Step::Ruling(..) | Step::Captured(..) | Step::Unread(..) => {}
+    /// Makes those parts Quiet that some effects silenced since all were last made Ready.
+    fn hide_last(&mut self, effects: &[Effect]) {
+        for effect in effects.iter().rev() {
+            match *effect {
+                Effect::Quiet(part) => self.hide(part),
+                Effect::Wake => return,
+                Effect::Ruling(..) | Effect::Captured(..) | Effect::Unread(..) => {}
             }
         }
     }
@@ -132,17 +132,17 @@ impl Waiting {
     pub(crate) fn last_rulings(
         &self,
         alloc: Global,
-        steps: &[Step],
+        effects: &[Effect],
     ) -> Result<Vec<u32>, AllocError> {
         let mut last = vec![in alloc; 0; self.count]?;
         let mut waiting = self.again(alloc)?;
-        waiting.hide_last(steps);
-        for index in (0..steps.len()).rev() {
-            match steps[index] {
-                Step::Quiet(part) => waiting.show(part),
-                Step::Wake => waiting.hide_last(&steps[..index]),
-                Step::Captured(..) | Step::Unread(..) => {}
-                Step::Ruling(line, span, own) => {
+        waiting.hide_last(effects);
+        for index in (0..effects.len()).rev() {
+            match effects[index] {
+                Effect::Quiet(part) => waiting.show(part),
+                Effect::Wake => waiting.hide_last(&effects[..index]),
+                Effect::Captured(..) | Effect::Unread(..) => {}
+                Effect::Ruling(line, span, own) => {
                     for part in &waiting.take_others(alloc, span, own)? {
                         note(&mut last, *part, line);
                     }

@@ -3,7 +3,7 @@ use Rattle.vic_log.proofs.Words.{take, ◌++◌, drop_all, take_all, append-nil,
 use Rattle.vic_log.specs.Log.{IsLog}
 use Rattle.vic_log.specs.Order.{numbers}
 use Rattle.vic_log.specs.Weaker.{AreWeaker, IsWeaker, is_weaker}
-use Rattle.vic_log.specs.Deaf.{is_answer, answers, captured, hidden_entries, is_heard, has_heard, deaf_entry, deaf_entries, is_silent, ends_silent, IsLastAnswer, IsPartlyHidden, ArePartlyHidden, IsPartlyDeaf, ArePartlyDeaf}
+use Rattle.vic_log.specs.Deaf.{is_answer, answers, captured, hidden_entries, is_heard_alone, has_heard_alone, deaf_entry, deaf_entries, is_silent, ends_silent, IsLastAnswer, IsPartlyHidden, ArePartlyHidden, IsPartlyDeaf, ArePartlyDeaf}
 use Rattle.vic_log.proofs.Weaker.{weaker-iff, weaker_given, weaker_listed, weaker_opener, at_each, SameOrSlots}
 use Rattle.vic_log.proofs.DeafLines.{deaf_at, hidden_at, length-deaf, length-hidden}
 
@@ -87,10 +87,10 @@ given_deaf ds es h p g = weaker_given _ ds (partly_deaf ds es h) p g
 
 -- ---- the same
 
-captured_same : (e : Entry) → is_heard e ≡ false → captured e ≡ e
+captured_same : (e : Entry) → is_heard_alone e ≡ false → captured e ≡ e
 captured_same e h = grind (arith, nat_tests)
 
-pub hidden_same : (es : List Entry) → has_heard es ≡ false → hidden_entries es ≡ es
+pub hidden_same : (es : List Entry) → has_heard_alone es ≡ false → hidden_entries es ≡ es
 hidden_same [] h = refl
 hidden_same (e ∷ es) h = grind (arith, nat_tests, captured_same e, hidden_same es)
 

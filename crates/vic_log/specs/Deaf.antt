@@ -30,7 +30,7 @@ pub record IsLastAnswer (es : List Entry) (i : ℕ) : Type 0 where
 
 -- ---- hidden
 
--- a reply that was heard alone, as one that may have hidden others: `H` for `R`
+-- a reply that was heard alone, as one that may have hidden others: the line `H` for `R`
 abbrev pub captured : Entry → Entry
 captured (Heard r) = Captured r
 captured e = e
@@ -39,14 +39,15 @@ captured e = e
 abbrev pub hidden_entries : List Entry → List Entry
 hidden_entries es = map captured es
 
-abbrev pub is_heard : Entry → Bool
-is_heard (Heard r) = true
-is_heard e = false
+-- the entry is a reply that was heard alone: the line `R`, not `H`
+abbrev pub is_heard_alone : Entry → Bool
+is_heard_alone (Heard r) = true
+is_heard_alone e = false
 
 -- some reply was heard alone
-abbrev pub has_heard : List Entry → Bool
-has_heard [] = false
-has_heard (e ∷ es) = is_heard e || has_heard es
+abbrev pub has_heard_alone : List Entry → Bool
+has_heard_alone [] = false
+has_heard_alone (e ∷ es) = is_heard_alone e || has_heard_alone es
 
 -- ---- deaf
 

@@ -2,7 +2,7 @@
 //! deaf after its last answer.
 
 ghost use Rattle.std.specs.Prelude.{◌≡◌, ◌≤◌, [], ◌∷◌, length};
-ghost use Rattle.vic_log.specs.Deaf.{answers, captured, deaf_entries, deaf_entry, ends_silent, has_heard, hidden_entries, is_answer};
+ghost use Rattle.vic_log.specs.Deaf.{answers, captured, deaf_entries, deaf_entry, ends_silent, has_heard_alone, hidden_entries, is_answer};
 ghost use Rattle.vic_log.specs.inner.Deaf.{silent_after};
 ghost use Rattle.vic_log.specs.Order.{entries, numbers};
 
@@ -24,8 +24,8 @@ pub(crate) fn answers(lines: &[PackedLine]) -> usize
 }
 
 /// Whether some reply was heard alone.
-pub(crate) fn has_heard(lines: &[PackedLine]) -> bool
-    ensures { result ≡ has_heard (entries lines.now) }
+pub(crate) fn has_heard_alone(lines: &[PackedLine]) -> bool
+    ensures { result ≡ has_heard_alone (entries lines.now) }
 {
     for line in lines {
         if let Entry::Heard(_) = line.item() {

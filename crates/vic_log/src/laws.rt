@@ -6,7 +6,7 @@ ghost use Rattle.vic_log.specs.declared.entry.Entry.{Entry};
 ghost use Rattle.vic_log.specs.declared.entry.Entry.TheVariants.{Silent, Unknown};
 ghost use Rattle.vic_log.specs.declared.fault.LineFault.{LineFault};
 ghost use Rattle.vic_log.specs.declared.fault.LogFault.{LogFault};
-ghost use Rattle.vic_log.specs.Deaf.{IsLastAnswer, answers, hidden_entries, has_heard, deaf_entries, ends_silent, ArePartlyHidden, ArePartlyDeaf};
+ghost use Rattle.vic_log.specs.Deaf.{IsLastAnswer, answers, hidden_entries, has_heard_alone, deaf_entries, ends_silent, ArePartlyHidden, ArePartlyDeaf};
 ghost use Rattle.vic_log.specs.Early.{IsEarlyFault, ReadsAs, Judges};
 ghost use Rattle.vic_log.specs.FirstVersion.{IsOfFirstVersion, AreOfFirstVersion, opener_in_first, is_quiet_in_first, FitsFirst, CouldHaveGivenFirst, IsInOrderFirst};
 ghost use Rattle.vic_log.specs.declared.entry.Version.{Version};
@@ -158,7 +158,7 @@ pub fn hidden_and_deaf_keep_populations()
 /// comes behind the last answer, the deaf entries are the hidden ones. The deaf entries of the
 /// hidden ones are the deaf ones.
 pub fn hidden_and_deaf_may_be_the_same()
-    ensures hidden { (es : List Entry) → has_heard es ≡ false → hidden_entries es ≡ es }
+    ensures hidden { (es : List Entry) → has_heard_alone es ≡ false → hidden_entries es ≡ es }
     ensures deaf { (es : List Entry) → ends_silent es ≡ false
         → deaf_entries es ≡ hidden_entries es }
     ensures both { (es : List Entry) → deaf_entries (hidden_entries es) ≡ deaf_entries es }

@@ -2,7 +2,7 @@
 
 ghost use Rattle.std.specs.Prelude.{◌≡◌, ◌<◌, ◌≤◌, [], ◌∷◌, ◌++◌, not, ◌||◌, true, false};
 ghost use Rattle.std.specs.Prelude.{Some, None, MatchResult, OnOk, OnErr, if◌then◌else◌};
-ghost use Rattle.vic_log.specs.Deaf.{answers, deaf_entries, ends_silent, has_heard, hidden_entries};
+ghost use Rattle.vic_log.specs.Deaf.{answers, deaf_entries, ends_silent, has_heard_alone, hidden_entries};
 ghost use Rattle.vic_log.specs.declared.entry.Version.TheVariants.{V1, V2, V3};
 ghost use Rattle.vic_log.specs.declared.fault.PushFault.TheVariants.{DuplicateListed};
 ghost use Rattle.vic_log.specs.FirstVersion.{IsOfFirstVersion};
@@ -111,10 +111,10 @@ impl Log {
     }
 
     /// Whether some reply was heard alone; if none was, `into_hidden` keeps the entries.
-    pub fn has_heard(&self) -> bool
-        ensures { result ≡ has_heard (entries self.now.lines) }
+    pub fn has_heard_alone(&self) -> bool
+        ensures { result ≡ has_heard_alone (entries self.now.lines) }
     {
-        deaf::has_heard(&self.lines)
+        deaf::has_heard_alone(&self.lines)
     }
 
     /// Whether a silent slot comes behind its last answer, or where it has none; if none does,

@@ -11,10 +11,11 @@ use std::io::Write;
 
 /// A writer of bytes that remembers whether its last write or flush failed.
 pub trait Sink {
-    // The bytes that its writes have accepted so far.
+    // The bytes that its writes have accepted so far. Every sink has them, whatever became of them.
     ghost written: { Self → List ℕ };
 
-    // The bytes that it has accepted, if it reveals them.
+    // The bytes that the device contains, those from before its first write among them, if it
+    // reveals them: one over memory does, a file doesn't. So each fact about bytes is stated twice.
     ghost taken: { Self → Option (List ℕ) };
 
     // Whether its last write or flush was a flush that succeeded: it has passed on all that it

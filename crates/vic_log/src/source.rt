@@ -18,13 +18,14 @@ pub trait Source {
     // How many times it has been read.
     ghost reads: { Self → ℕ };
 
-    // The bytes that its reads have returned so far.
+    // The bytes that its reads have returned so far. Every source has them.
     ghost returned: { Self → List ℕ };
 
     // Whether its last read returned none, though the buffer wasn't empty.
     ghost ended: { Self → Bool };
 
-    // The bytes that it has left, if it reveals them.
+    // The bytes that it has left, if it reveals them: one over memory does, a file doesn't. So each
+    // fact about bytes is stated twice.
     ghost left: { Self → Option (List ℕ) };
 
     ghost has_failed: { Self → Bool };

@@ -3,7 +3,7 @@ use Rattle.vic_margin.proofs.Words.{◌≡◌, ◌∙◌, ℕ, zero, suc, ◌+�
 use Rattle.std.proofs.lemmas.Option.{slice_get-map, slice_get_within}
 use Rattle.vic_log.proofs.Cautious.{deaf_before, deaf_behind, deaf_never, deaf_others, deaf_same, deaf_weaker_self, hidden_same, hidden_weaker}
 use Rattle.vic_log.proofs.Places.{AgreeBefore, answers_agree}
-use Rattle.vic_log.specs.Deaf.{IsLastAnswer, answers, captured, deaf_entries, ends_silent, has_heard, hidden_entries, is_answer, is_heard, is_silent}
+use Rattle.vic_log.specs.Deaf.{IsLastAnswer, answers, captured, deaf_entries, ends_silent, has_heard_alone, hidden_entries, is_answer, is_heard_alone, is_silent}
 use Rattle.vic_log.specs.Slots.{Slot, is_open, slots_before, slots_of, with_entry}
 use Rattle.vic_walk.proofs.Ending.{open_earlier}
 use Rattle.vic_walk.specs.Walk.{AreEndsAt, IsEnd}
@@ -62,7 +62,7 @@ same_before es (suc i) h = λ j lt. sym (deaf_before es i j h (omega (arith, lt)
 -- ---- from it on the deaf one rules out no UID
 
 abbrev rules_out : Entry → Bool
-rules_out e = is_silent e || is_heard e
+rules_out e = is_silent e || is_heard_alone e
 
 unknown_behind : (es : List Entry) (n j : ℕ) → IsBehindAnswers es n → n ≤ j → slice_get es j ≡ Some Silent → slice_get (deaf_entries es) j ≡ Some Unknown
 unknown_behind es zero j h le k = deaf_never es j (no_answers es h) k
@@ -103,13 +103,13 @@ deaf_open es n u h =
 
 -- ---- what the readings are
 
-pub read_none : (es : List Entry) → has_heard es ≡ false → ends_silent es ≡ false → AreReadings es (record { hidden = None; deaf = None })
+pub read_none : (es : List Entry) → has_heard_alone es ≡ false → ends_silent es ≡ false → AreReadings es (record { hidden = None; deaf = None })
 read_none es unheard loud = record {
   hidden = λ u may. subst (λ ds. IsPossibleUid ds u) (hidden_same es unheard) may;
   deaf = λ u may. subst (λ ds. IsPossibleUid ds u) (deaf_same es loud ∙ hidden_same es unheard) may;
 }
 
-pub read_hidden : (es hs : List Entry) (bs ends : List ℕ) (rs : List (ℕ × ℕ)) (m : Option BitMask) (hides : Bool) → IsPossible es → SameUids (is_open_in rs) (is_open (slots_of es)) → hs ≡ hidden_entries es → hides ≡ has_heard es → AreEndsAt bs hs (length hs) ends → ((fs : List Entry) (i : ℕ) → AreEndsAt bs fs i ends → (hides ≡ false → SameUids (is_open_in rs) (is_open (slots_before fs i))) → IsWidestOpened (is_opened fs i rs) m) → IsFirstOpened (hidden_entries es) es m
+pub read_hidden : (es hs : List Entry) (bs ends : List ℕ) (rs : List (ℕ × ℕ)) (m : Option BitMask) (hides : Bool) → IsPossible es → SameUids (is_open_in rs) (is_open (slots_of es)) → hs ≡ hidden_entries es → hides ≡ has_heard_alone es → AreEndsAt bs hs (length hs) ends → ((fs : List Entry) (i : ℕ) → AreEndsAt bs fs i ends → (hides ≡ false → SameUids (is_open_in rs) (is_open (slots_before fs i))) → IsWidestOpened (is_opened fs i rs) m) → IsFirstOpened (hidden_entries es) es m
 read_hidden es hs bs ends rs m hides possible same is hears ends_all told =
     let unhidden : hides ≡ false → SameUids (is_open_in rs) (is_open (slots_of hs)) = λ none. subst (λ ds. SameUids (is_open_in rs) (is_open (slots_of ds))) (sym (is ∙ hidden_same es (sym hears ∙ none))) same in
     let set : IsWidestOpened (is_opened hs (length hs) rs) m = told hs (length hs) ends_all unhidden in

@@ -25,9 +25,9 @@ use vic_tree::{KeyRange, OpenSet, RangeSet, SortedKeys};
 use vic_verdict::Verdict;
 use vic_walk::{LogLines, LogWalk, Parts, closed_keys, walk_log};
 
-/// What the hidden and the deaf reading of a possible log leave open beside the log, whose open
-/// UIDs are handed in as the ranges of their keys. If a reading can differ from the log, it walks
-/// over the log once more. It fails only if memory is refused.
+/// What the hidden and the deaf reading of a possible log leave open beside the log itself, whose
+/// open UIDs are handed in as the ranges of their keys. It walks over the hidden log, unless
+/// neither reading can differ from the log.
 pub fn readings(alloc: Global, log: Log, ranges: &[KeyRange]) -> Result<Readings, AllocError>
     requires possible { IsPossible (entries log.lines) }
     requires open { SameUids (is_open_in ranges.now) (is_open (slots_of (entries log.lines))) }
@@ -37,7 +37,7 @@ pub fn readings(alloc: Global, log: Log, ranges: &[KeyRange]) -> Result<Readings
     Ok(readings)
 }
 
-/// The same, with the hidden log.
+/// `readings`, and the hidden log: the same lines, with `H` for `R`.
 fn readings_and_hidden(
     alloc: Global,
     log: Log,
@@ -49,7 +49,7 @@ fn readings_and_hidden(
     ensures numbers { IfOk result (λ r. numbers r.0.lines ≡ numbers log.lines) }
     ensures readings { IfOk result (λ r. AreReadings (entries log.lines) r.1) }
 {
-    let hides = log.has_heard();
+    let hides = log.has_heard_alone();
     let falls_silent = log.ends_silent();
     if !hides && !falls_silent {
         let readings = Readings {
@@ -87,7 +87,8 @@ fn behind_answers(lines: &LogLines) -> usize
     behind
 }
 
-/// Of the ends of parts makes 0 each that an entry from this position on gave.
+/// Makes 0 each end of a part, the number of entries up to the one that ruled it out, that is
+/// behind this position: as if no entry from there on ruled anything out.
 fn reopen(ends: &mut Vec<u32>, position: usize)
     ensures size { length ends.new.items ≡ length ends.old.items }
     ensures each { (p : ℕ) → slice_index ends.new.items p
@@ -100,7 +101,8 @@ fn reopen(ends: &mut Vec<u32>, position: usize)
     }
 }
 
-/// `opened`, if some UID may be; none is if all that are open have a key in the ranges.
+/// `opened`, if the reading differs from the log; otherwise no mask, without looking: all UIDs that
+/// are open have keys in the ranges.
 fn opened_if(
     alloc: Global,
     differs: bool,
@@ -121,7 +123,7 @@ fn opened_if(
     }
 }
 
-/// By the ends of parts the first mask of UIDs that are open, and have no key in some ranges.
+/// The first mask of UIDs that are open by the ends of their parts, and have no key in some ranges.
 fn opened(
     alloc: Global,
     parts: &Parts,
@@ -139,8 +141,8 @@ fn opened(
     Ok(set.widest())
 }
 
-/// What the readings of a log with this verdict leave unsettled, if its list is complete. So the
-/// UIDs with these keys are those that it lists.
+/// What the readings of a log with this verdict leave unsettled, if its list is complete; the keys
+/// are those of the listed UIDs.
 pub(crate) fn readings_if_complete(
     alloc: Global,
     verdict: &Verdict,
@@ -164,8 +166,8 @@ pub(crate) fn readings_if_complete(
     }
 }
 
-/// The hidden log of one whose list is complete, and what the readings leave open beside the UIDs
-/// with these keys, which are those that it lists. It fails only if memory is refused.
+/// `readings`, and the hidden log, of one whose list is complete: its open UIDs are those that it
+/// lists, whose keys are handed in.
 pub fn readings_of_complete(
     alloc: Global,
     log: Log,

@@ -25,8 +25,7 @@ pub(crate) struct PartMargins<'a> {
     ghost margins: { AreMargins parts (entries log.now.lines) each.items } by { Prim.hlevel props },
 }
 
-/// The margin of each UID that is handed in: in how many slots of a log it was overlooked. It fails
-/// only if memory is refused.
+/// The margin of each UID that is handed in: in how many slots of a log it was overlooked.
 pub fn overlooked(alloc: Global, log: &Log, uids: &[Uid]) -> Result<Vec<u32>, AllocError>
     ensures { IfOk result (λ v. v.items ≡ map (margin_of (entries log.now.lines)) uids.now) }
 {

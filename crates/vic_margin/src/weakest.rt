@@ -21,7 +21,7 @@ use vic_verdict::{Facts, Verdict, facts_and_parts_of, listed_uids, verdict_of_fa
 use vic_walk::{LogParts, other_keys};
 
 /// The verdict on a log, and its margin, if it is possible; if its list is complete, also how far
-/// it stays complete if the log is read more cautiously. It fails only if memory is refused.
+/// it stays complete if the log is read more cautiously. Impossible logs have neither.
 pub fn margin(alloc: Global, log: Log) -> Result<Margin, AllocError>
     ensures verdict { IfOk result (λ m. IsVerdict log.lines m.verdict) }
     ensures weakest { IfOk result (λ m. MatchOption m.weakest
@@ -86,7 +86,7 @@ fn measured(
 }
 
 /// The margin of a log beside some UIDs, as if it listed these and no others, and the first mask of
-/// UIDs that have it, by the parts of the log. It fails only if memory is refused.
+/// UIDs that have it, by the parts of the log.
 pub fn weakest_besides(
     alloc: Global,
     log: &Log,

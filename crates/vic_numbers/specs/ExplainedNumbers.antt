@@ -9,8 +9,8 @@ use Rattle.vic_numbers.specs.Buffers.{IsReturned}
 use Rattle.vic_answer.specs.ExplainText.{uids_of}
 use Rattle.vic_numbers.specs.Numbers.{numbers_of}
 
--- these are the numbers of the explained answer to a text, its population has `count` UIDs, and
--- this is what becomes of the buffer for them
+-- these are the numbers of the explained answer to a text; its population has `count` UIDs, which
+-- are returned in a buffer
 pub record AreExplainedNumbersFor (text : List ℕ) (numbers : VicinityAnswer) (count : ℕ)
     (room room' : List ℕ) : Type 0 where
   pub explained : Answered Explanation

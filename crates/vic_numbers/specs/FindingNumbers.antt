@@ -9,7 +9,7 @@ use Rattle.vic_answer.specs.declared.findings.Finding.{Finding}
 use Rattle.vic_answer.specs.declared.findings.Finding.TheVariants.{Absent, Unlisted, Unsettled, Doubtful, OpenMask, MoreOpenMasks, ConflictLine, SilencedBy}
 use Rattle.vic_numbers.specs.declared.numbers.VicinityAnswer.{VicinityAnswer}
 use Rattle.vic_numbers.specs.Buffers.{IsReturned}
-use Rattle.vic_answer.specs.Findings.{answer_findings}
+use Rattle.vic_answer.specs.Findings.{findings_of}
 use Rattle.vic_numbers.specs.Numbers.{numbers_of}
 
 -- a finding of a kind, without what goes with some kinds
@@ -34,11 +34,11 @@ finding_numbers MoreOpenMasks = finding 9
 finding_numbers (ConflictLine n) = record (finding 10) { line = n }
 finding_numbers (SilencedBy n) = record (finding 11) { line = n }
 
--- these are the numbers of the answer to a text, the report on it has `count` findings, and this is
--- what becomes of the buffer for them
+-- these are the numbers of the answer to a text; the report on it has `count` findings, which are
+-- returned in a buffer
 pub record AreReportedNumbersFor (text : List ℕ) (numbers : VicinityAnswer) (count : ℕ)
     (room room' : List VicinityFinding) : Type 0 where
   pub reported : Answered LogReport
   pub right : IsAnswered IsReport text reported
   pub numbers_are : numbers ≡ numbers_of (answer_of verdict_of reported)
-  pub returned : IsReturned (map finding_numbers (answer_findings reported)) room room' count
+  pub returned : IsReturned (map finding_numbers (findings_of reported)) room room' count

@@ -1,11 +1,13 @@
 -- An answer in numbers, with its line.
 use Rattle.std.specs.Prelude.{◌≡◌, ℕ, ◌-◌, List, ◌++◌, length, replicate}
+use Rattle.vic_verdict.specs.Verdict.{IsVerdict}
 use Rattle.vic_verdict.specs.declared.judging.Verdict.{Verdict}
 use Rattle.vic_verdict.specs.declared.judging.Verdict.TheVariants.{Impossible, Absent, Unlisted, Unsettled, Doubtful, Complete}
+use Rattle.vic_answer.specs.Answered.{IsAnswered}
 use Rattle.vic_answer.specs.declared.answered.Answered.{Answered}
 use Rattle.vic_answer.specs.declared.answered.Answered.TheVariants.{Found, RefusedAt}
 use Rattle.vic_answer.specs.declared.text.TheConstants.{ANSWER_ROOM}
-use Rattle.vic_answer.specs.CheckText.{IsAnswer, answer_line, answer_status}
+use Rattle.vic_answer.specs.CheckText.{check_text, check_status}
 use Rattle.vic_answer.specs.Status.{status_code}
 use Rattle.vic_numbers.specs.declared.numbers.VicinityAnswer.{VicinityAnswer}
 use Rattle.vic_numbers.specs.FaultNumbers.{fault_number}
@@ -47,12 +49,12 @@ answer_fields (RefusedAt n fault) =
 -- the fields of an answer, with the exit status and the line of the program
 abbrev pub numbers_of : Answered Verdict → VicinityAnswer
 numbers_of a = record (answer_fields a) {
-  status = status_code (answer_status a);
-  text = padded (answer_line a);
+  status = status_code (check_status a);
+  text = padded (check_text a);
 }
 
 -- these are the numbers of the answer to a text
 pub record AreNumbersFor (text : List ℕ) (numbers : VicinityAnswer) : Type 0 where
   pub answer : Answered Verdict
-  pub right : IsAnswer text answer
+  pub right : IsAnswered IsVerdict text answer
   pub numbers_are : numbers ≡ numbers_of answer

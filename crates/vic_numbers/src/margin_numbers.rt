@@ -60,8 +60,8 @@ fn weakest_fields(weakest: &Option<Weakest>, readings: &Readings) -> VicinityWea
 {
     match weakest {
         Some(weakest) => {
-            let hidden = mask_or_all(&readings.hidden);
-            let deaf = mask_or_all(&readings.deaf);
+            let hidden = mask_or_zeros(&readings.hidden);
+            let deaf = mask_or_zeros(&readings.deaf);
             VicinityWeakest {
                 margin: weakest.margin,
                 mask_len: u32::from(weakest.mask.len()),
@@ -101,9 +101,9 @@ fn has_mask(mask: &Option<Mask>) -> u32
     }
 }
 
-/// A mask; that of no bits if there is none.
-fn mask_or_all(mask: &Option<Mask>) -> Mask
-    ensures { result ≡ spec.mask_or_all mask.now }
+/// A mask, with zeros for none.
+fn mask_or_zeros(mask: &Option<Mask>) -> Mask
+    ensures { result ≡ spec.mask_or_zeros mask.now }
 {
     match mask {
         Some(mask) => *mask,

@@ -6,7 +6,7 @@ ghost use Rattle.vic_answer.specs.declared.answered.Answered.TheVariants.{Found}
 ghost use Rattle.vic_numbers.specs.Numbers as spec;
 
 use crate::fault_numbers::fault_number;
-use vic_answer::{ANSWER_ROOM, Answer, answer_line, answer_status};
+use vic_answer::{ANSWER_ROOM, Answer, check_status, check_text};
 use vic_verdict::Verdict;
 
 /// The kind of an answer or of a finding in numbers; from 2 to 5 it is that of both.
@@ -77,8 +77,8 @@ pub fn numbers_of(answer: &Answer) -> VicinityAnswer
     ensures nonzero { result.kind ≢ 0 }
 {
     VicinityAnswer {
-        status: u32::from(answer_status(answer).code()),
-        text: padded(answer_line(answer).as_slice()),
+        status: u32::from(check_status(answer).code()),
+        text: padded(check_text(answer).as_slice()),
         ..answer_fields(answer)
     }
 }

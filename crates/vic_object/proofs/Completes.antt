@@ -18,15 +18,15 @@ use Rattle.vic_margin.proofs.SamePopulations.{same_deaf, same_hidden}
 use Rattle.vic_margin.specs.Margins.{IsWeakest}
 use Rattle.vic_margin.specs.Readings.{IsFirstOpened}
 use Rattle.vic_margin.specs.declared.answer.Weakest.{Weakest}
-use Rattle.vic_object.specs.Told.{IsRereadBy}
-use Rattle.vic_object.specs.inner.Reading.{IsReadingOf}
+use Rattle.vic_object.specs.Told.{IsToldBy}
+use Rattle.vic_object.specs.inner.Cautious.{AreHiddenOrDeaf}
 
-reading_weaker : (ds es : List Entry) → IsReadingOf ds es → AreWeaker ds es
+reading_weaker : (ds es : List Entry) → AreHiddenOrDeaf ds es → AreWeaker ds es
 reading_weaker ds es (inl e) = subst (λ xs. AreWeaker xs es) (sym e) (hidden_weaker es)
 reading_weaker ds es (inr e) = subst (λ xs. AreWeaker xs es) (sym e) (deaf_weaker_self es)
 
 -- where it opens no UID, the same populations could have given it
-reading_given : (ds es : List Entry) → IsReadingOf ds es → IsPossible es → IsFirstOpened ds es None → (p : List ℕ) → IsPopulation p → CouldHaveGiven p ds → CouldHaveGiven p es
+reading_given : (ds es : List Entry) → AreHiddenOrDeaf ds es → IsPossible es → IsFirstOpened ds es None → (p : List ℕ) → IsPopulation p → CouldHaveGiven p ds → CouldHaveGiven p es
 reading_given ds es (inl e) possible none p pop given = (same_hidden es possible (subst (λ xs. IsFirstOpened xs es None) e none) p pop).0 (subst (λ xs. CouldHaveGiven p xs) e given)
 reading_given ds es (inr e) possible none p pop given = (same_deaf es possible (subst (λ xs. IsFirstOpened xs es None) e none) p pop).0 (subst (λ xs. CouldHaveGiven p xs) e given)
 
@@ -37,7 +37,7 @@ has_same ds es u w = ap (λ us. has us u) (weaker_listed ds es w)
 still_possible : (ds es : List Entry) → AreWeaker ds es → IsPossible es → IsPossible ds
 still_possible ds es w p = (p.0, p.1, weaker_given ds es w p.0 p.2)
 
-still_whole : (ds es : List Entry) → IsReadingOf ds es → IsWhole es → IsFirstOpened ds es None → IsWhole ds
+still_whole : (ds es : List Entry) → AreHiddenOrDeaf ds es → IsWhole es → IsFirstOpened ds es None → IsWhole ds
 still_whole ds es r whole none =
     let w = reading_weaker ds es r in (
       still_possible ds es w whole.0,
@@ -46,7 +46,7 @@ still_whole ds es r whole none =
           (λ h. has_same ds es u w ∙ it.0 h, λ h. it.1 (sym (has_same ds es u w) ∙ h)),
     )
 
-pub read_same : (lines read : List LogLine) (count : ℕ) (w : Weakest) → IsReadingOf (entries read) (entries lines) → IsVerdict lines (Complete count) → IsFirstOpened (entries read) (entries lines) None → IsWeakest (entries read) w → IsRereadBy lines read (Complete count) (record { verdict = Complete count; holds = true; weakest = Some w; settled = true })
+pub read_same : (lines read : List LogLine) (count : ℕ) (w : Weakest) → AreHiddenOrDeaf (entries read) (entries lines) → IsVerdict lines (Complete count) → IsFirstOpened (entries read) (entries lines) None → IsWeakest (entries read) w → IsToldBy lines read (Complete count) (record { verdict = Complete count; holds = true; weakest = Some w; settled = true })
 read_same lines read count w r v none weakest =
     let ds = entries read in
     let es = entries lines in
@@ -59,7 +59,7 @@ read_same lines read count w r v none weakest =
       settled = (λ e u may p pop given. (whole.1 p pop given u).1 ((whole.1 may.0 may.1 (reading_given ds es r whole.0 none may.0 may.1 may.2) u).0 may.3), λ all. refl);
     }
 
-pub read_more : (lines read : List LogLine) (count : ℕ) (m : BitMask) → IsReadingOf (entries read) (entries lines) → IsVerdict lines (Complete count) → IsFirstOpened (entries read) (entries lines) (Some m) → IsRereadBy lines read (Complete count) (record { verdict = Unsettled m; holds = false; weakest = None; settled = false })
+pub read_more : (lines read : List LogLine) (count : ℕ) (m : BitMask) → AreHiddenOrDeaf (entries read) (entries lines) → IsVerdict lines (Complete count) → IsFirstOpened (entries read) (entries lines) (Some m) → IsToldBy lines read (Complete count) (record { verdict = Unsettled m; holds = false; weakest = None; settled = false })
 read_more lines read count m r v more =
     let ds = entries read in
     let es = entries lines in

@@ -14,6 +14,7 @@ use Rattle.vic_verdict.specs.Differences.{IsUndecided}
 
 -- ---- where tags collided
 
+-- they are the same mask
 abbrev pub is_same : BitMask → BitMask → Bool
 is_same m n = (m.len == n.len) && (m.value == n.value)
 
@@ -63,21 +64,22 @@ has_collided_below es m (suc k) =
 
 -- ---- what asks for an open mask
 
--- what is left of some requests for the first k slots of sixteen of a mask
+-- what `asks` has for each of the first k slots of sixteen of a mask, one after the other
 unfoldable pub of_slots : (BitMask → List Request) → BitMask → ℕ → List Request
 of_slots asks m zero = []
 of_slots asks m (suc k) = of_slots asks m k ++ asks (slot_of_sixteen m k)
 
--- what asks for a mask, which sixteen slots part so often at most: the same for each of these, if
--- tags collided in one of them; sixteen slots for the mask of all tags, and where tags collided in
--- it or within it; else one slot
+-- what asks for a mask, which is divided into the masks of sixteen slots, and these again, so often
+-- at most. If tags collided in one of the sixteen: what asks for each of them. Else one request: of
+-- sixteen slots for the mask of all tags, and where tags collided in the mask or within it; of one
+-- slot for any other
 abbrev pub asks_in : List Entry → ℕ → ℕ → BitMask → List Request
 asks_in es zero link m = []
 asks_in es (suc n) link m =
     if has_collided_below es m 16 then of_slots (asks_in es n link) m 16
     else Inventory link (m.len == 0 || has_collided_within es m) m ∷ []
 
--- what asks for an open mask: its UIDs are apart once 56 bits are known
+-- what asks for an open mask: once it has 56 bits, it has one UID and isn't divided
 abbrev pub asks_for : List Entry → ℕ → BitMask → List Request
 asks_for es link m = asks_in es ((MAX_MASK_LEN_OF_SIXTEEN - m.len) / 4) link m
 

@@ -23,11 +23,11 @@ use Rattle.vic_margin.specs.Margins.{IsWeakest}
 use Rattle.vic_margin.specs.UidMargins.{margin_of}
 use Rattle.vic_margin.specs.declared.answer.Weakest.{Weakest}
 use Rattle.vic_object.specs.Asking.{asks_for}
-use Rattle.vic_object.specs.Finding.{findings_of}
+use Rattle.vic_object.specs.Finding.{findings_told}
 use Rattle.vic_object.specs.declared.finding.TheConstants.{MOST_TOLD}
 use Rattle.vic_object.specs.declared.told.FieldTold.{FieldTold}
 use Rattle.vic_object.specs.declared.told.LogTold.{LogTold}
-use Rattle.vic_object.specs.declared.told.Reread.{Reread}
+use Rattle.vic_object.specs.declared.told.CautiousReading.{CautiousReading}
 
 -- ---- the margin, and the cautious readings
 
@@ -40,7 +40,7 @@ IsWeakestIfComplete es v None = ⊤
 
 -- what other lines tell, where those of the log have this verdict: their verdict, whether it is the
 -- same, their margin, and whether each UID that they leave possible is certain in the log
-pub record IsRereadBy (lines others : List LogLine) (v : Verdict) (r : Reread) : Type 0 where
+pub record IsToldBy (lines others : List LogLine) (v : Verdict) (r : CautiousReading) : Type 0 where
   pub verdict : IsVerdict others r.verdict
   pub holds : (r.holds ≡ true) ↔ (r.verdict ≡ v)
   pub weakest : IsWeakestIfComplete (entries others) r.verdict r.weakest
@@ -48,12 +48,12 @@ pub record IsRereadBy (lines others : List LogLine) (v : Verdict) (r : Reread) :
       ↔ ((u : ℕ) → IsPossibleUid (entries others) u → IsCertainUid (entries lines) u)
 
 -- the same of these entries on the lines of the log
-pub record IsReread (lines : List LogLine) (es : List Entry) (v : Verdict) (r : Reread)
-    : Type 0 where
+pub record IsCautiousReading (lines : List LogLine) (es : List Entry) (v : Verdict)
+    (r : CautiousReading) : Type 0 where
   pub others : List LogLine
   pub entries_are : entries others ≡ es
   pub numbers_are : numbers others ≡ numbers lines
-  pub told : IsRereadBy lines others v r
+  pub told : IsToldBy lines others v r
 
 -- ---- the field
 
@@ -114,9 +114,10 @@ unnoticed_of (Impossible n) = None
 -- what the lines of a log tell
 pub record IsTold (lines : List LogLine) (t : LogTold) : Type 0 where
   pub report : IsReport lines t.report
-  pub findings : t.findings.items ≡ findings_of (margin_of (entries lines)) t.report
+  pub findings : t.findings.items ≡ findings_told (margin_of (entries lines)) t.report
   pub weakest : IsWeakestIfComplete (entries lines) (verdict_of t.report) t.weakest
-  pub hidden : IsReread lines (hidden_entries (entries lines)) (verdict_of t.report) t.hidden
-  pub deaf : IsReread lines (deaf_entries (entries lines)) (verdict_of t.report) t.deaf
+  pub hidden :
+      IsCautiousReading lines (hidden_entries (entries lines)) (verdict_of t.report) t.hidden
+  pub deaf : IsCautiousReading lines (deaf_entries (entries lines)) (verdict_of t.report) t.deaf
   pub field : IsFieldTold lines t.field
   pub unnoticed : t.unnoticed ≡ unnoticed_of (verdict_of t.report)

@@ -1,5 +1,5 @@
 -- Definitions that private contracts alone cite.
+pub mod Cautious
 pub mod Certain
 pub mod Collided
-pub mod Reading
 pub mod Middles

@@ -11,7 +11,7 @@ ghost use Rattle.vic_object.specs.Asking as spec;
 ghost use Rattle.vic_object.specs.inner.Collided.{AreCollided, has_mask};
 ghost use Rattle.vic_object.specs.inner.Middles.{AreMiddles, is_middle_in, middle_of};
 
-use crate::sent::SentRequest;
+use crate::request::ValidRequest;
 use std::alloc::{AllocError, Global};
 use std::collections::BTreeSet;
 use vic_frame::low_bits_first::first_key;
@@ -152,20 +152,20 @@ fn has_middle_in(middles: &[u64], mask: &Mask) -> bool
 }
 
 /// Whether tags collided in a slot with the mask of one of sixteen slots of a mask.
-fn is_parted(collided: &Collisions, mask: &Mask) -> bool
+fn has_collided_below(collided: &Collisions, mask: &Mask) -> bool
     requires { mask.now.len ≤ MAX_MASK_LEN_OF_SIXTEEN }
     ensures { (es : List EntryValue) → AreCollided es collided.now
         → result ≡ spec.has_collided_below es mask.now 16 }
 {
     let mut found = false;
     for k in 0..16u8 {
-        found = has_slot(&collided.masks, mask, k) || found;
+        found = has_collided_in(&collided.masks, mask, k) || found;
     }
     found
 }
 
 /// Whether tags collided in a slot with the mask of slot `k` of sixteen.
-fn has_slot(masks: &BTreeSet<Mask>, mask: &Mask, k: u8) -> bool
+fn has_collided_in(masks: &BTreeSet<Mask>, mask: &Mask, k: u8) -> bool
     requires len { mask.now.len ≤ MAX_MASK_LEN_OF_SIXTEEN }
     requires k { k ≤ 15 }
     ensures { result ≡ has_mask masks.now (slot_of_sixteen mask.now k) }
@@ -189,9 +189,9 @@ fn is_for_sixteen(collided: &Collisions, mask: &Mask) -> bool
     has_middle_in(&collided.middles, mask)
 }
 
-/// Appends what asks for a mask that sixteen slots part so often at most.
+/// Appends what asks for a mask, which is divided into the masks of sixteen slots so often at most.
 pub(crate) fn push_asks(
-    requests: &mut Vec<SentRequest>,
+    requests: &mut Vec<ValidRequest>,
     collided: &Collisions,
     times: u8,
     link: u8,
@@ -205,7 +205,7 @@ pub(crate) fn push_asks(
     if times == 0 {
         return Ok(());
     }
-    if !is_parted(collided, &mask) {
+    if !has_collided_below(collided, &mask) {
         let sixteen = is_for_sixteen(collided, &mask);
         return push_ask(requests, link, sixteen, mask);
     }
@@ -220,7 +220,7 @@ pub(crate) fn push_asks(
 
 /// Appends one request.
 fn push_ask(
-    requests: &mut Vec<SentRequest>,
+    requests: &mut Vec<ValidRequest>,
     link: u8,
     sixteen: bool,
     mask: Mask,
@@ -235,6 +235,6 @@ fn push_ask(
         sixteen,
         mask,
     };
-    requests.push(SentRequest::new(request))?;
+    requests.push(ValidRequest::new(request))?;
     Ok(())
 }

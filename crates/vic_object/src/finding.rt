@@ -5,7 +5,7 @@ ghost use Rattle.vic_log.specs.Order.{entries};
 ghost use Rattle.vic_margin.specs.UidMargins.{margin_of};
 ghost use Rattle.vic_text.specs.Json.{json_uid};
 ghost use Rattle.vic_object.specs.Finding as spec;
-ghost use Rattle.vic_object.specs.declared.finding.Finding.TheVariants as FindingValue;
+ghost use Rattle.vic_object.specs.declared.finding.FindingTold.TheVariants as FindingValue;
 
 use std::alloc::{AllocError, Global};
 use vic_frame::Uid;
@@ -19,7 +19,7 @@ pub const MOST_TOLD: usize = 1000;
 
 /// A finding, as the object of a log tells it.
 #[derive(Clone, Copy, Debug, PartialEq, Eq)]
-pub enum Finding {
+pub enum FindingTold {
     /// The line that silenced the tag whose reply is a conflict by itself.
     SilencedBy(u32),
     /// A line of a conflict.
@@ -33,22 +33,22 @@ pub enum Finding {
     Doubtful(Uid),
 }
 
-impl ToJson for Finding {
+impl ToJson for FindingTold {
     ghost json_of = { spec.finding_object };
 
     fn push_json(&self, text: &mut Vec<u8>) -> Result<(), AllocError> {
         match *self {
-            Finding::SilencedBy(line) => {
+            FindingTold::SilencedBy(line) => {
                 push_of_line(text, b"{\"kind\":\"silenced by\",\"line\":", line)
             }
-            Finding::Conflict(line) => push_of_line(
+            FindingTold::Conflict(line) => push_of_line(
                 text,
                 b"{\"kind\":\"conflict\",\"line\":",
                 line,
             ),
-            Finding::Absent { shown, overlooked } => push_absent(text, &shown, overlooked),
-            Finding::Unlisted(shown) => push_unlisted(text, &shown),
-            Finding::Doubtful(uid) => push_doubtful(text, uid),
+            FindingTold::Absent { shown, overlooked } => push_absent(text, &shown, overlooked),
+            FindingTold::Unlisted(shown) => push_unlisted(text, &shown),
+            FindingTold::Doubtful(uid) => push_doubtful(text, uid),
         }
     }
 }
@@ -104,37 +104,45 @@ fn push_shown(text: &mut Vec<u8>, shown: &ShownUid) -> Result<(), AllocError>
     push_decimal(text, u64::from(shown.line))
 }
 
-/// The findings of a report on a log.
-pub fn findings_in(alloc: Global, log: &Log, report: &LogReport) -> Result<Vec<Finding>, AllocError>
+/// The findings that are told of a log, by the report on it.
+pub fn findings_told(
+    alloc: Global,
+    log: &Log,
+    report: &LogReport,
+) -> Result<Vec<FindingTold>, AllocError>
     ensures { IfOk result (λ found. found.items
-        ≡ spec.findings_of (margin_of (entries log.now.lines)) report.now) }
+        ≡ spec.findings_told (margin_of (entries log.now.lines)) report.now) }
 {
     match report {
         LogReport::Impossible(conflict) => lines_of_conflict(alloc, conflict),
-        LogReport::NotWhole(findings) => told_findings(alloc, log, findings),
+        LogReport::NotWhole(findings) => first_findings(alloc, log, findings),
         LogReport::Complete { .. } => Ok(Vec::new(alloc)),
     }
 }
 
 /// The lines of a conflict.
-fn lines_of_conflict(alloc: Global, conflict: &Conflict) -> Result<Vec<Finding>, AllocError>
+fn lines_of_conflict(alloc: Global, conflict: &Conflict) -> Result<Vec<FindingTold>, AllocError>
     ensures { IfOk result (λ found. found.items ≡ spec.silenced_findings conflict.now.silenced_by
         ++ map FindingValue.Conflict conflict.now.lines.items) }
 {
     let mut found = Vec::new(alloc);
     if let Some(line) = conflict.silenced_by {
-        found.push(Finding::SilencedBy(line))?;
+        found.push(FindingTold::SilencedBy(line))?;
     }
     for line in &conflict.lines {
-        found.push(Finding::Conflict(*line))?;
+        found.push(FindingTold::Conflict(*line))?;
     }
     Ok(found)
 }
 
 /// The first findings of each kind of a possible log.
-fn told_findings(alloc: Global, log: &Log, findings: &Findings) -> Result<Vec<Finding>, AllocError>
+fn first_findings(
+    alloc: Global,
+    log: &Log,
+    findings: &Findings,
+) -> Result<Vec<FindingTold>, AllocError>
     ensures { IfOk result (λ found. found.items
-        ≡ spec.told_findings (margin_of (entries log.now.lines)) findings.now) }
+        ≡ spec.first_findings (margin_of (entries log.now.lines)) findings.now) }
 {
     let mut found = Vec::new(alloc);
     push_absent_of(
@@ -161,7 +169,7 @@ pub(crate) fn first_of<T>(items: &[T], most: usize) -> &[T]
 
 /// Adds absent UIDs, each with how often it was overlooked.
 fn push_absent_of(
-    found: &mut Vec<Finding>,
+    found: &mut Vec<FindingTold>,
     alloc: Global,
     log: &Log,
     absent: &[ShownUid],
@@ -182,7 +190,7 @@ fn push_absent_of(
 
 /// Adds absent UIDs, each with its count.
 fn push_counted(
-    found: &mut Vec<Finding>,
+    found: &mut Vec<FindingTold>,
     absent: &[ShownUid],
     counts: &[u32],
 ) -> Result<(), AllocError>
@@ -192,7 +200,7 @@ fn push_counted(
         → found.new.items ≡ found.old.items ++ map (spec.absent_of margin) absent.now) }
 {
     for index in 0..absent.len() {
-        found.push(Finding::Absent {
+        found.push(FindingTold::Absent {
             shown: absent[index],
             overlooked: counts[index],
         })?;
@@ -201,23 +209,23 @@ fn push_counted(
 }
 
 /// Adds unlisted UIDs.
-fn push_unlisted_of(found: &mut Vec<Finding>, unlisted: &[ShownUid]) -> Result<(), AllocError>
+fn push_unlisted_of(found: &mut Vec<FindingTold>, unlisted: &[ShownUid]) -> Result<(), AllocError>
     ensures { OnOk result
         (found.new.items ≡ found.old.items ++ map FindingValue.Unlisted unlisted.now) }
 {
     for shown in unlisted {
-        found.push(Finding::Unlisted(*shown))?;
+        found.push(FindingTold::Unlisted(*shown))?;
     }
     Ok(())
 }
 
 /// Adds doubtful UIDs.
-fn push_doubtful_of(found: &mut Vec<Finding>, doubtful: &[Uid]) -> Result<(), AllocError>
+fn push_doubtful_of(found: &mut Vec<FindingTold>, doubtful: &[Uid]) -> Result<(), AllocError>
     ensures { OnOk result
         (found.new.items ≡ found.old.items ++ map FindingValue.Doubtful doubtful.now) }
 {
     for uid in doubtful {
-        found.push(Finding::Doubtful(*uid))?;
+        found.push(FindingTold::Doubtful(*uid))?;
     }
     Ok(())
 }

@@ -3,18 +3,18 @@
 
 mod answer;
 mod asking;
-mod field;
+mod cautious;
 mod finding;
 pub mod laws;
 mod lines;
 mod object;
-mod reading;
-mod sent;
+mod plain;
+mod request;
 mod text;
 mod told;
 
-pub use finding::{Finding, MOST_TOLD, findings_in};
+pub use finding::{FindingTold, MOST_TOLD, findings_told};
 pub use object::object_of;
-pub use sent::SentRequest;
+pub use request::ValidRequest;
 pub use text::push_object;
-pub use told::{AskedMask, FieldTold, LogTold, MOST_CERTAIN, Reread};
+pub use told::{AskedMask, CautiousReading, FieldTold, LogTold, MOST_CERTAIN};

@@ -6,16 +6,16 @@ ghost use Rattle.vic_frame.specs.declared.uid.TheConstants.{UID_BITS};
 ghost use Rattle.vic_verdict.specs.declared.judging.Verdict.TheVariants.{Unsettled};
 ghost use Rattle.vic_report.proofs.AllFindings.{report_begins};
 ghost use Rattle.vic_report.specs.Reports.{verdict_of};
-ghost use Rattle.vic_object.specs.Object.{IsObjectOf};
+ghost use Rattle.vic_object.specs.Object.{IsJsonOf};
 ghost use Rattle.vic_object.specs.Told as spec;
 
-use crate::field::{Own, own_of};
-use crate::finding::findings_in;
-use crate::reading::rereads;
+use crate::cautious::cautious_readings;
+use crate::finding::findings_told;
+use crate::plain::{PlainReading, plain_reading};
 use crate::text::push_object;
 use crate::told::LogTold;
 use std::alloc::{AllocError, Global};
-use vic_answer::{HasVerdict, Judgement, WrittenText, answer_of, answer_status, answer_text};
+use vic_answer::{HasVerdict, Judgement, WrittenText, answer_of, check_status, find_in_text};
 use vic_frame::Uid;
 use vic_log::Log;
 use vic_verdict::Verdict;
@@ -43,14 +43,14 @@ impl Judgement for LogTold {
 /// once more in each of its two cautious readings; these are walked over together if its list is
 /// complete. It fails only if memory is refused.
 pub fn object_of(alloc: Global, text: &[u8]) -> Result<WrittenText, AllocError>
-    ensures { IfOk result (λ w. IsObjectOf text.now w.text.items w.status) }
+    ensures { IfOk result (λ w. IsJsonOf text.now w.text.items w.status) }
 {
-    let told = answer_text::<LogTold>(alloc, text)?;
+    let told = find_in_text::<LogTold>(alloc, text)?;
     let mut object = Vec::new(alloc);
     push_object(&mut object, text, &told)?;
     Ok(WrittenText {
         text: object,
-        status: answer_status(&answer_of(&told)),
+        status: check_status(&answer_of(&told)),
     })
 }
 
@@ -58,15 +58,15 @@ pub fn object_of(alloc: Global, text: &[u8]) -> Result<WrittenText, AllocError>
 fn told_of_log(alloc: Global, log: Log) -> Result<LogTold, AllocError>
     ensures { IfOk result (spec.IsTold log.lines) }
 {
-    let Own {
+    let PlainReading {
         report,
         field,
         keys,
         weakest,
-    } = own_of(alloc, &log)?;
+    } = plain_reading(alloc, &log)?;
     let verdict = report.verdict();
-    let findings = findings_in(alloc, &log, &report)?;
-    let (hidden, deaf) = rereads(alloc, log, &verdict, &keys)?;
+    let findings = findings_told(alloc, &log, &report)?;
+    let (hidden, deaf) = cautious_readings(alloc, log, &verdict, &keys)?;
     Ok(LogTold {
         report,
         findings,

@@ -3,16 +3,16 @@
 ghost use Rattle.std.specs.Prelude.{◌≡◌, ◌++◌, ◌==◌, OnOk, codes, decimal, length, map, take};
 ghost use Rattle.vic_log.specs.Lines.{all_but_last, cut, ends_with, lf};
 ghost use Rattle.vic_text.specs.Json.{json_bool, json_list, json_uid};
-ghost use Rattle.vic_answer.specs.CheckText.{answer_line};
+ghost use Rattle.vic_answer.specs.CheckText.{check_text};
 ghost use Rattle.vic_object.specs.Finding.{finding_object};
 ghost use Rattle.vic_object.specs.ObjectText as spec;
 
 use crate::answer::{push_margin, push_number, push_refused, push_verdict};
-use crate::finding::{Finding, first_of};
+use crate::finding::{FindingTold, first_of};
 use crate::lines::line_count;
-use crate::told::{AskedMask, FieldTold, LogTold, MOST_CERTAIN, Reread};
+use crate::told::{AskedMask, CautiousReading, FieldTold, LogTold, MOST_CERTAIN};
 use std::alloc::AllocError;
-use vic_answer::{Answer, Answered, answer_line};
+use vic_answer::{Answer, Answered, check_text};
 use vic_frame::Uid;
 use vic_log::LineFault;
 use vic_report::LogReport;
@@ -26,7 +26,7 @@ pub fn push_object(
     told: &Answered<LogTold>,
 ) -> Result<(), AllocError>
     ensures { OnOk result
-        (text.new.items ≡ text.old.items ++ spec.object_text log_text.now told.now) }
+        (text.new.items ≡ text.old.items ++ spec.json_text log_text.now told.now) }
 {
     match told {
         Answered::Found(told) => push_told(text, log_text, told),
@@ -83,11 +83,11 @@ fn push_refused_object(
 fn push_readings(text: &mut Vec<u8>, told: &LogTold) -> Result<(), AllocError>
     ensures { OnOk result (text.new.items ≡ text.old.items ++ spec.readings_members told.now) }
 {
-    let asked = has_no_open(&told.report, &told.field);
+    let shows_settled = has_no_open(&told.report, &told.field);
     text.extend_from_slice(b",\"captured\":")?;
-    push_reread(text, asked, &told.hidden)?;
+    push_reading(text, shows_settled, &told.hidden)?;
     text.extend_from_slice(b",\"deaf\":")?;
-    push_reread(text, asked, &told.deaf)?;
+    push_reading(text, shows_settled, &told.deaf)?;
     push_margin(text, &told.weakest)
 }
 
@@ -102,41 +102,45 @@ fn has_no_open(report: &LogReport, field: &FieldTold) -> bool
 }
 
 /// Appends what a reading tells.
-fn push_reread(text: &mut Vec<u8>, asked: bool, reread: &Reread) -> Result<(), AllocError>
+fn push_reading(
+    text: &mut Vec<u8>,
+    shows_settled: bool,
+    reading: &CautiousReading,
+) -> Result<(), AllocError>
     ensures { OnOk result
-        (text.new.items ≡ text.old.items ++ spec.reread_object asked reread.now) }
+        (text.new.items ≡ text.old.items ++ spec.reading_object shows_settled reading.now) }
 {
-    push_reread_members(text, reread)?;
-    push_settled(text, asked, reread.settled)
+    push_reading_answer(text, reading)?;
+    push_settled(text, shows_settled, reading.settled)
 }
 
 /// Appends the answer of a reading, or its margin.
-fn push_reread_members(text: &mut Vec<u8>, reread: &Reread) -> Result<(), AllocError>
-    ensures { OnOk result (text.new.items ≡ text.old.items ++ spec.reread_members reread.now) }
+fn push_reading_answer(text: &mut Vec<u8>, reading: &CautiousReading) -> Result<(), AllocError>
+    ensures { OnOk result (text.new.items ≡ text.old.items ++ spec.reading_answer reading.now) }
 {
-    if reread.holds {
+    if reading.holds {
         text.extend_from_slice(b"{\"holds\":true")?;
-        push_margin(text, &reread.weakest)
+        push_margin(text, &reading.weakest)
     } else {
         text.extend_from_slice(b"{\"holds\":false,")?;
-        push_verdict(text, &reread.verdict)
+        push_verdict(text, &reading.verdict)
     }
 }
 
-/// Appends whether a reading settles its field, if that is asked, and the end of its object.
-fn push_settled(text: &mut Vec<u8>, asked: bool, settled: bool) -> Result<(), AllocError>
+/// Appends whether a reading settles its field, where that is shown, and the end of its object.
+fn push_settled(text: &mut Vec<u8>, shows_settled: bool, settled: bool) -> Result<(), AllocError>
     ensures { OnOk result
-        (text.new.items ≡ text.old.items ++ spec.settled_member asked settled) }
+        (text.new.items ≡ text.old.items ++ spec.settled_member shows_settled settled) }
 {
-    if asked {
-        push_asked_settled(text, settled)
+    if shows_settled {
+        push_shown_settled(text, settled)
     } else {
         text.extend_from_slice(b"}")
     }
 }
 
 /// Appends whether a reading settles its field, and the end of its object.
-fn push_asked_settled(text: &mut Vec<u8>, settled: bool) -> Result<(), AllocError>
+fn push_shown_settled(text: &mut Vec<u8>, settled: bool) -> Result<(), AllocError>
     ensures { OnOk result (text.new.items
         ≡ text.old.items ++ (codes ",\"settled\":" ++ json_bool settled ++ codes "}")) }
 {
@@ -161,9 +165,9 @@ fn push_text_members(text: &mut Vec<u8>, log_text: &[u8], answer: &Answer) -> Re
 /// Appends the line of an answer, without its LF.
 fn push_answer(text: &mut Vec<u8>, answer: &Answer) -> Result<(), AllocError>
     ensures { OnOk result
-        (text.new.items ≡ text.old.items ++ all_but_last (answer_line answer.now)) }
+        (text.new.items ≡ text.old.items ++ all_but_last (check_text answer.now)) }
 {
-    let line = answer_line(answer);
+    let line = check_text(answer);
     let line = line.as_slice();
     text.extend_from_slice(&line[..line.len().saturating_sub(1)])
 }
@@ -181,7 +185,7 @@ fn is_ended(text: &[u8]) -> bool
 /// Appends findings, and how many there are.
 fn push_findings(
     text: &mut Vec<u8>,
-    findings: &[Finding],
+    findings: &[FindingTold],
     report: &LogReport,
 ) -> Result<(), AllocError>
     ensures { OnOk result

@@ -1,7 +1,7 @@
 //! What the object of a log tells of it.
 
-use crate::finding::Finding;
-use crate::sent::SentRequest;
+use crate::finding::FindingTold;
+use crate::request::ValidRequest;
 use vic_frame::{Mask, Uid};
 use vic_margin::Weakest;
 use vic_report::LogReport;
@@ -16,13 +16,13 @@ pub struct LogTold {
     /// The report on it.
     pub report: LogReport,
     /// The findings that are told.
-    pub findings: Vec<Finding>,
+    pub findings: Vec<FindingTold>,
     /// Its margin, if its list is complete.
     pub weakest: Option<Weakest>,
     /// What it tells if replies may have hidden others.
-    pub hidden: Reread,
+    pub hidden: CautiousReading,
     /// What it tells if, besides, the reader may have gone deaf after its last answer.
-    pub deaf: Reread,
+    pub deaf: CautiousReading,
     /// What it says of its field.
     pub field: FieldTold,
     /// If it is unsettled, a UID that isn't listed and could be there.
@@ -31,7 +31,7 @@ pub struct LogTold {
 
 /// What a cautious reading of a log tells.
 #[derive(Clone, Copy, Debug, PartialEq, Eq)]
-pub struct Reread {
+pub struct CautiousReading {
     /// The verdict on the list of the log.
     pub verdict: Verdict,
     /// Whether it is that of the log.
@@ -59,5 +59,5 @@ pub struct FieldTold {
 #[derive(Drop)]
 pub struct AskedMask {
     pub mask: Mask,
-    pub requests: Vec<SentRequest>,
+    pub requests: Vec<ValidRequest>,
 }

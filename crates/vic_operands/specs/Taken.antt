@@ -3,7 +3,7 @@ use Rattle.std.specs.Prelude.{List}
 use Rattle.vic_operands.specs.Files.{File}
 use Rattle.vic_operands.specs.declared.operands.Operands.{Operands}
 use Rattle.vic_operands.specs.declared.reconcile_operands.ReconcileOperands.{ReconcileOperands}
-use Rattle.vic_operands.specs.inner.Lists.{HasExpected}
+use Rattle.vic_operands.specs.inner.Lists.{HasTakenToReconcileBy}
 use Rattle.vic_operands.specs.inner.States.{HasTakenBy}
 
 -- these files were taken, in this order
@@ -12,4 +12,4 @@ HasTaken files operands = HasTakenBy files operands.state
 
 -- the same, as operands of `reconcile`
 abbrev pub HasTakenToReconcile : List File → ReconcileOperands → Type 0
-HasTakenToReconcile files operands = HasExpected files operands.expecting
+HasTakenToReconcile files operands = HasTakenToReconcileBy files operands.state

@@ -24,9 +24,7 @@ pub fn kind_of(text: &[u8]) -> Kind
 {
     if text.starts_with(b"vicinity-survey ") {
         Kind::Surveys
-    } else if text.is_empty() {
-        Kind::Log
-    } else if without_mark(text).starts_with(b"vicinity-") {
+    } else if text.is_empty() || without_mark(text).starts_with(b"vicinity-") {
         Kind::Log
     } else {
         Kind::Table

@@ -95,24 +95,12 @@ fn surveys_in(alloc: Global, text: &[u8]) -> Result<Vec<Survey>, FileFault>
         (spec.RefusesBy KindValue.Surveys text.now) }
 {
     match read_surveys(alloc, text) {
-        Ok(surveys) => {
-            are_surveys(surveys.as_slice());
-            Ok(surveys)
-        }
+        Ok(surveys) => Ok(surveys),
         Err(SurveysFault::Line { line }) => Err(FileFault::Line {
             line: line as u64,
             fault: OperandFault::Survey,
         }),
         Err(SurveysFault::Memory) => Err(FileFault::Memory),
-    }
-}
-
-/// Surveys are what surveys can say: this only tells the proof so.
-fn are_surveys(surveys: &[Survey])
-    ensures { AreSurveys surveys.now }
-{
-    for survey in surveys {
-        let _field = survey.field();
     }
 }
 

@@ -118,51 +118,22 @@ fn with_operand(kept: Kept, operand: Operand) -> Result<Kept, AllocError>
     ensures { IfOk result (λ more. (files : List FileValue) (file : FileValue)
         → HaveKept files kept → IsOperandOf file operand → HaveKept (files ++ file ∷ []) more) }
 {
-    let Kept {
-        mut catalogues,
-        mut places,
-        mut surveys,
-    } = kept;
+    let mut kept = kept;
     match operand {
         Operand::Surveys(more) => {
-            surveys = with_surveys(surveys, more)?;
-            Ok(Kept {
-                catalogues,
-                places,
-                surveys,
-            })
+            let mut more = more;
+            kept.surveys.append(&mut more)?;
+            Ok(kept)
         }
         Operand::Catalogue(catalogue) => {
-            catalogues.push(catalogue)?;
-            Ok(Kept {
-                catalogues,
-                places,
-                surveys,
-            })
+            kept.catalogues.push(catalogue)?;
+            Ok(kept)
         }
         Operand::Places(rows) => {
-            places.push(rows)?;
-            Ok(Kept {
-                catalogues,
-                places,
-                surveys,
-            })
+            kept.places.push(rows)?;
+            Ok(kept)
         }
     }
-}
-
-/// Surveys, and others behind them.
-pub(crate) fn with_surveys(
-    surveys: Vec<Survey>,
-    more: Vec<Survey>,
-) -> Result<Vec<Survey>, AllocError>
-    ensures { IfOk result (λ all. all.items ≡ surveys.items ++ more.items) }
-{
-    let mut surveys = surveys;
-    for survey in more {
-        surveys.push(survey)?;
-    }
-    Ok(surveys)
 }
 
 /// What files are together that have no fault.
@@ -212,7 +183,7 @@ fn together(
     }
 }
 
-/// That the log at this index is known by what a log before it is known by.
+/// Refuses the log at this index: it is known by what a log before it is known by.
 fn same_name(alloc: Global, surveys: &[Survey], index: usize) -> Result<Refusal, AllocError>
     requires { index < length surveys.now }
     ensures name { IfOk result (λ r. IsSomeAnd (slice_get surveys.now index)
@@ -227,7 +198,7 @@ fn same_name(alloc: Global, surveys: &[Survey], index: usize) -> Result<Refusal,
     })
 }
 
-/// The same of a collection whose logs can be told apart.
+/// What files are together whose logs can be told apart.
 fn unlike(name: String, unasked: bool, collection: Collection) -> Gathered
     ensures { (files : List FileValue) → spec.AreNamed files → spec.AreTogether files collection
         → map (λ f. f.name) (filter is_catalogue files) ≡ string_bytes name ∷ []

@@ -7,14 +7,14 @@ ghost use Rattle.vic_operands.specs.Files.{File as FileValue};
 ghost use Rattle.vic_operands.specs.Kinds.{is_list};
 ghost use Rattle.vic_operands.specs.Lists.{IsGatheredToReconcile};
 ghost use Rattle.vic_operands.specs.Taken.{HasTakenToReconcile};
-ghost use Rattle.vic_operands.specs.inner.Lists.{HasExpected};
+ghost use Rattle.vic_operands.specs.inner.Lists.{HasTakenToReconcileBy};
 
 use crate::fault::Refusal;
 use crate::gathered::Gathered;
 use crate::kind::is_list;
 use crate::list::read_list;
 use crate::operand::{FileFault, read_behind_list};
-use crate::operands::{Operands, with_surveys};
+use crate::operands::Operands;
 use std::alloc::{AllocError, Global};
 use vic_collection::Collection;
 use vic_survey::{Name, Survey};
@@ -23,11 +23,11 @@ use vic_table::Catalogue;
 /// What is known of the operands of `reconcile` that were taken so far.
 #[derive(Drop)]
 pub struct ReconcileOperands {
-    expecting: Expecting,
+    state: ReconcileState,
 }
 
 #[derive(Drop)]
-enum Expecting {
+enum ReconcileState {
     /// None was taken.
     Nothing,
     /// One has a name that no log could have.
@@ -53,7 +53,7 @@ impl ReconcileOperands {
         ensures { HasTakenToReconcile [] result }
     {
         ReconcileOperands {
-            expecting: Expecting::Nothing,
+            state: ReconcileState::Nothing,
         }
     }
 
@@ -70,11 +70,11 @@ impl ReconcileOperands {
     {
         let Some(log_name) = Name::new(String::from_str(alloc, name)?) else {
             return Ok(ReconcileOperands {
-                expecting: Expecting::Unnamed,
+                state: ReconcileState::Unnamed,
             });
         };
         Ok(ReconcileOperands {
-            expecting: expecting_with(alloc, self.expecting, log_name, text)?,
+            state: state_with(alloc, self.state, log_name, text)?,
         })
     }
 
@@ -83,71 +83,71 @@ impl ReconcileOperands {
         ensures { IfOk result (λ gathered. (files : List FileValue)
             → HasTakenToReconcile files self → IsGatheredToReconcile files gathered) }
     {
-        gathered(alloc, self.expecting)
+        gathered(alloc, self.state)
     }
 }
 
-/// What files are together.
-fn gathered(alloc: Global, expecting: Expecting) -> Result<Gathered, AllocError>
-    ensures { IfOk result (λ gathered. (files : List FileValue) → HasExpected files expecting
-        → IsGatheredToReconcile files gathered) }
+/// What files are together, by what is known of them.
+fn gathered(alloc: Global, state: ReconcileState) -> Result<Gathered, AllocError>
+    ensures { IfOk result (λ gathered. (files : List FileValue)
+        → HasTakenToReconcileBy files state → IsGatheredToReconcile files gathered) }
 {
-    match expecting {
-        Expecting::Nothing => Ok(Gathered::Usage),
-        Expecting::Unnamed => Ok(Gathered::Usage),
-        Expecting::Refused(refusal) => Ok(Gathered::Refused(refusal)),
-        Expecting::Listed(listed) => gather(alloc, listed),
-        Expecting::Collected(operands) => operands.finish(alloc),
+    match state {
+        ReconcileState::Nothing => Ok(Gathered::Usage),
+        ReconcileState::Unnamed => Ok(Gathered::Usage),
+        ReconcileState::Refused(refusal) => Ok(Gathered::Refused(refusal)),
+        ReconcileState::Listed(listed) => gather_behind_list(alloc, listed),
+        ReconcileState::Collected(operands) => operands.finish(alloc),
     }
 }
 
 /// What is known of files and one more.
-fn expecting_with(
+fn state_with(
     alloc: Global,
-    before: Expecting,
+    before: ReconcileState,
     name: Name,
     text: Vec<u8>,
-) -> Result<Expecting, AllocError>
-    ensures { IfOk result (λ more. (files : List FileValue) → HasExpected files before
+) -> Result<ReconcileState, AllocError>
+    ensures { IfOk result (λ more. (files : List FileValue) → HasTakenToReconcileBy files before
         → IsName name
-        → HasExpected (files ++ record { name = name; text = text.items } ∷ []) more) }
+        → HasTakenToReconcileBy (files ++ record { name = name; text = text.items } ∷ []) more) }
 {
     match before {
-        Expecting::Nothing => first(alloc, name, text),
-        Expecting::Unnamed => Ok(Expecting::Unnamed),
-        Expecting::Refused(refusal) => Ok(Expecting::Refused(refusal)),
-        Expecting::Listed(listed) => with_log(alloc, listed, name, text.as_slice()),
-        Expecting::Collected(operands) => {
+        ReconcileState::Nothing => first(alloc, name, text),
+        ReconcileState::Unnamed => Ok(ReconcileState::Unnamed),
+        ReconcileState::Refused(refusal) => Ok(ReconcileState::Refused(refusal)),
+        ReconcileState::Listed(listed) => with_log(alloc, listed, name, text.as_slice()),
+        ReconcileState::Collected(operands) => {
             let more = operands.add(alloc, name.as_str(), text)?;
-            Ok(Expecting::Collected(more))
+            Ok(ReconcileState::Collected(more))
         }
     }
 }
 
 /// What is known of the first file.
-fn first(alloc: Global, name: Name, text: Vec<u8>) -> Result<Expecting, AllocError>
+fn first(alloc: Global, name: Name, text: Vec<u8>) -> Result<ReconcileState, AllocError>
     ensures { IfOk result (λ one. IsName name
-        → HasExpected (record { name = name; text = text.items } ∷ []) one) }
+        → HasTakenToReconcileBy (record { name = name; text = text.items } ∷ []) one) }
 {
     if is_list(text.as_slice()) {
         return first_list(alloc, name, text.as_slice());
     }
     let operands = Operands::begin(alloc).add(alloc, name.as_str(), text)?;
-    Ok(Expecting::Collected(operands))
+    Ok(ReconcileState::Collected(operands))
 }
 
 /// What is known of a list.
-fn first_list(alloc: Global, name: Name, text: &[u8]) -> Result<Expecting, AllocError>
+fn first_list(alloc: Global, name: Name, text: &[u8]) -> Result<ReconcileState, AllocError>
     requires { is_list text.now ≡ true }
     ensures { IfOk result (λ one. IsName name
-        → HasExpected (record { name = name; text = text.now } ∷ []) one) }
+        → HasTakenToReconcileBy (record { name = name; text = text.now } ∷ []) one) }
 {
     match read_list(alloc, text) {
-        Ok(catalogue) => Ok(Expecting::Listed(Listed {
+        Ok(catalogue) => Ok(ReconcileState::Listed(Listed {
             catalogue,
             surveys: Vec::new(alloc),
         })),
-        Err(FileFault::Line { line, fault }) => Ok(Expecting::Refused(Refusal {
+        Err(FileFault::Line { line, fault }) => Ok(ReconcileState::Refused(Refusal {
             name: String::from_str(alloc, name.as_str())?,
             line,
             fault,
@@ -157,19 +157,25 @@ fn first_list(alloc: Global, name: Name, text: &[u8]) -> Result<Expecting, Alloc
 }
 
 /// What is known of a list, files behind it and one more.
-fn with_log(alloc: Global, listed: Listed, name: Name, text: &[u8]) -> Result<Expecting, AllocError>
+fn with_log(
+    alloc: Global,
+    listed: Listed,
+    name: Name,
+    text: &[u8],
+) -> Result<ReconcileState, AllocError>
     ensures { IfOk result (λ more. (files : List FileValue)
-        → HasExpected files (Expecting.Listed listed) → IsName name
-        → HasExpected (files ++ record { name = name; text = text.now } ∷ []) more) }
+        → HasTakenToReconcileBy files (ReconcileState.Listed listed) → IsName name
+        → HasTakenToReconcileBy (files ++ record { name = name; text = text.now } ∷ []) more) }
 {
-    let Listed { catalogue, surveys } = listed;
+    let mut listed = listed;
     let file = String::from_str(alloc, name.as_str())?;
     match read_behind_list(alloc, name, text) {
         Ok(more) => {
-            let surveys = with_surveys(surveys, more)?;
-            Ok(Expecting::Listed(Listed { catalogue, surveys }))
+            let mut more = more;
+            listed.surveys.append(&mut more)?;
+            Ok(ReconcileState::Listed(listed))
         }
-        Err(FileFault::Line { line, fault }) => Ok(Expecting::Refused(Refusal {
+        Err(FileFault::Line { line, fault }) => Ok(ReconcileState::Refused(Refusal {
             name: file,
             line,
             fault,
@@ -179,9 +185,10 @@ fn with_log(alloc: Global, listed: Listed, name: Name, text: &[u8]) -> Result<Ex
 }
 
 /// What a list and the files behind it are together.
-fn gather(alloc: Global, listed: Listed) -> Result<Gathered, AllocError>
+fn gather_behind_list(alloc: Global, listed: Listed) -> Result<Gathered, AllocError>
     ensures { IfOk result (λ gathered. (files : List FileValue)
-        → HasExpected files (Expecting.Listed listed) → IsGatheredToReconcile files gathered) }
+        → HasTakenToReconcileBy files (ReconcileState.Listed listed)
+        → IsGatheredToReconcile files gathered) }
 {
     let Listed { catalogue, surveys } = listed;
     let collection = Collection::new(alloc, catalogue, None, surveys)?;

@@ -8,20 +8,22 @@ use Rattle.vic_words.specs.declared.asked.WordsFault.TheVariants.{Usage as Usage
 use Rattle.vic_program.specs.Ends.{End, words_line}
 use Rattle.vic_program.specs.Program.{RunsWords}
 use Rattle.vic_program.specs.Runs.{OverInput, RunsTask}
-use Rattle.vic_program.specs.Sides.{FilesView, SourceView, SinkView}
+use Rattle.vic_program.specs.FilesView.{FilesView}
+use Rattle.vic_log.specs.declared.source.Source.{Ghosts as Source}
+use Rattle.vic_log.specs.declared.sink.Sink.{Ghosts as Sink}
 
 some_is_none : (a : List ℕ) → Some a ≡ None → ⊥
 some_is_none a e = cc
 
-pub task_over_input : {T I W : Type 0} (p : FilesView T) (ri : SourceView I) (w : SinkView W) (task : Task) (name : Option (List ℕ)) (i i' : I) (o o' : W) (end : End)
+pub task_over_input : {T I W : Type 0} (p : FilesView T) (ri : Source I) (w : Sink W) (task : Task) (name : Option (List ℕ)) (i i' : I) (o o' : W) (end : End)
     → name ≡ None → OverInput ri w task i i' o o' end → RunsTask p ri w task name i i' o o' end
 task_over_input p ri w task None i i' o o' end e h = h
 task_over_input p ri w task (Some a) i i' o o' end e h = absurd (some_is_none a e)
 
-pub no_request_runs : {T I W : Type 0} (p : FilesView T) (ri : SourceView I) (w : SinkView W) (words : List (List ℕ)) (i : I) (o : W) (end : End) (fault : WordsFault)
+pub no_request_runs : {T I W : Type 0} (p : FilesView T) (ri : Source I) (w : Sink W) (words : List (List ℕ)) (i : I) (o : W) (end : End) (fault : WordsFault)
     → (fault ≡ UsageFault → (asked : Asked) → Ask words asked → ⊥) → end ≡ Err (words_line fault) → RunsWords p ri w words i i o o end
-no_request_runs p ri w words i o end UsageFault nothing e = inr (inl (record { nothing = nothing refl; silent = record { unread = refl; unwritten = refl; ends = e } }))
-no_request_runs p ri w words i o end MemoryFault nothing e = inr (inr (record { unread = refl; unwritten = refl; ends = e }))
+no_request_runs p ri w words i o end UsageFault nothing e = inr (inl (record { nothing = nothing refl; idle = record { unread = refl; unwritten = record { line = words_line UsageFault; ends = e; why = refl; untouched = refl } } }))
+no_request_runs p ri w words i o end MemoryFault nothing e = inr (inr (record { unread = refl; unwritten = record { line = words_line MemoryFault; ends = e; why = refl; untouched = refl } }))
 
 -- the end with a line
 abbrev pub as_end : List ℕ → End

@@ -7,7 +7,7 @@ use Rattle.std.specs.List.{All}
 use Rattle.vic_log.specs.Device.{Grows}
 use Rattle.vic_survey.specs.Names.{IsName}
 use Rattle.vic_program.specs.Each.{IsTextOf, IsUnreadable, ReadsEach, StopsEarly}
-use Rattle.vic_program.specs.Sides.{FilesView}
+use Rattle.vic_program.specs.FilesView.{FilesView}
 
 -- the first of them, and one more
 pub taken_next : (names : List (List ℕ)) (i : ℕ) (name : List ℕ) → i < length names → get_or names i [] ≡ name → take (i + 1) names ≡ take i names ++ name ∷ []

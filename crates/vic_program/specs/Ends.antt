@@ -9,20 +9,26 @@ use Rattle.vic_words.specs.declared.asked.WordsFault.TheVariants.{Usage as Usage
 use Rattle.vic_program.specs.declared.no_answer.NoAnswer.{NoAnswer}
 use Rattle.vic_program.specs.declared.no_answer.NoAnswer.TheVariants.{Usage, CannotOpen, Run}
 
--- with a status, or without an answer, and then standard error has this line
+-- how the program ends: with a status, or with no answer, and then standard error has this line
 abbrev pub End : Type 0
 End = Result Status (List ℕ)
 
+-- the line for words that ask for nothing, and for files that a command doesn't take
+abbrev pub usage_line : List ℕ
+usage_line = codes "vicinity: usage"
+
+-- the line that says why there is no answer, without LF
 abbrev pub line_of : NoAnswer → List ℕ
-line_of Usage = codes "vicinity: usage"
+line_of Usage = usage_line
 line_of (CannotOpen name) = codes "vicinity: cannot open " ++ name.now
 line_of (Run fault) = fault_text fault
 
+-- the end after what was done for the words
 abbrev pub end_of : Result Status NoAnswer → End
 end_of (Ok status) = Ok status
 end_of (Err why) = Err (line_of why)
 
--- the end of a run
+-- the end after the run of a task
 abbrev pub run_end : Result Status RunFault → End
 run_end (Ok status) = Ok status
 run_end (Err fault) = Err (fault_text fault)
@@ -32,7 +38,7 @@ abbrev pub exit_code : End → ℕ
 exit_code (Ok status) = status_code status
 exit_code (Err line) = 4
 
--- what is said where the words ask for nothing
+-- the line where the words ask for nothing, or couldn't be read
 abbrev pub words_line : WordsFault → List ℕ
-words_line UsageFault = codes "vicinity: usage"
+words_line UsageFault = usage_line
 words_line MemoryFault = fault_text Memory

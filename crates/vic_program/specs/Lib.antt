@@ -1,6 +1,7 @@
 pub mod Ends
 pub mod Lines
-pub mod Sides
+pub mod FilesView
+pub mod Written
 pub mod Each
 pub mod Single
 pub mod Runs

@@ -7,7 +7,7 @@ ghost use Rattle.vic_answer.specs.declared.status.RunFault.TheVariants.{Memory};
 ghost use Rattle.vic_survey.specs.Names.{IsName};
 ghost use Rattle.vic_program.specs.Each.{OverEach, ReadsEach, StopsEarly};
 ghost use Rattle.vic_program.specs.Ends.{end_of, line_of};
-ghost use Rattle.vic_program.specs.Sides.{files_view, sink_view};
+ghost use Rattle.vic_program.specs.FilesView.{files_view};
 
 use crate::files::Files;
 use crate::no_answer::NoAnswer;
@@ -26,10 +26,7 @@ pub(crate) fn run_over_each<'a, G: Gather, F: Files, O: Sink>(
     names: &'a [String],
     output: &mut O,
 ) -> Result<Status, NoAnswer<'a>>
-    ensures { OverEach
-        (files_view F.File.returned F.File.ended F.File.reads F.File.has_failed
-        (F.origin files.now) (F.Refuses files.now))
-        (sink_view O.written O.is_flushed O.has_failed)
+    ensures { OverEach (files_view F.Files F.File.Source files.now) O.Sink
         G.Writes (map string_bytes names.entry.now) output.old output.new (end_of result) }
 {
     if !are_names(alloc, names)? {
@@ -70,14 +67,10 @@ fn taken_from<'a, G: Gather, F: Files>(
     files: &F,
     names: &'a [String],
 ) -> Result<G, NoAnswer<'a>>
-    ensures taken { IfOk result (λ taken. ReadsEach
-        (files_view F.File.returned F.File.ended F.File.reads F.File.has_failed
-        (F.origin files.now) (F.Refuses files.now))
+    ensures taken { IfOk result (λ taken. ReadsEach (files_view F.Files F.File.Source files.now)
         (map string_bytes names.entry.now) (λ texts. G.HasTaken (map string_bytes names.entry.now)
         texts taken)) }
-    ensures stops { IfErr result (λ why. StopsEarly
-        (files_view F.File.returned F.File.ended F.File.reads F.File.has_failed
-        (F.origin files.now) (F.Refuses files.now))
+    ensures stops { IfErr result (λ why. StopsEarly (files_view F.Files F.File.Source files.now)
         (map string_bytes names.entry.now) (line_of why) ⊎ (line_of why ≡ fault_text Memory)) }
 {
     let mut taken = G::begin(alloc);

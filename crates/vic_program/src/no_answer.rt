@@ -69,8 +69,7 @@ impl<'a> NoAnswer<'a> {
 
     /// Says it on a sink, which is flushed. A sink that has failed isn't written to again.
     pub(crate) fn say<W: Sink>(&self, sink: &mut W)
-        ensures { SaysLine W.written W.is_flushed W.has_failed sink.old sink.new
-            (line_of self.now ++ codes "\n") }
+        ensures { SaysLine W.Sink sink.old sink.new (line_of self.now ++ codes "\n") }
     {
         let (first, second) = self.parts();
         say_part(sink, first.as_bytes());
@@ -85,7 +84,7 @@ impl<'a> NoAnswer<'a> {
 
 /// Writes a part of what is said. If that fails, the status is the same.
 fn say_part<W: Sink>(sink: &mut W, part: &[u8])
-    ensures { SaysPart W.written W.has_failed sink.old sink.new part.now }
+    ensures { SaysPart W.Sink sink.old sink.new part.now }
 {
     let _ = write_whole(sink, part);
 }

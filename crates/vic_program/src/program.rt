@@ -3,8 +3,8 @@
 ghost use Rattle.std.specs.Prelude.{◌≡◌, MatchResult, map, string_bytes};
 ghost use Rattle.vic_program.specs.Ends.{end_of, exit_code, line_of, words_line};
 ghost use Rattle.vic_program.specs.Lines.{Says};
-ghost use Rattle.vic_program.specs.Program.{Ends, IsSilent, RunsWords};
-ghost use Rattle.vic_program.specs.Sides.{files_view, sink_view, source_view};
+ghost use Rattle.vic_program.specs.Program.{DoesNothing, Ends, RunsWords};
+ghost use Rattle.vic_program.specs.FilesView.{files_view};
 
 use crate::files::Files;
 use crate::no_answer::{NO_ANSWER, NoAnswer};
@@ -26,14 +26,10 @@ pub fn run_program<F: Files, I: Source, O: Sink, E: Sink>(
     errors: &mut E,
 ) -> u8
     ensures { Ends (λ end. MatchResult words
-        (λ w. RunsWords
-        (files_view F.File.returned F.File.ended F.File.reads F.File.has_failed
-        (F.origin files.now) (F.Refuses files.now))
-        (source_view I.returned I.ended I.reads I.has_failed)
-        (sink_view O.written O.is_flushed O.has_failed)
+        (λ w. RunsWords (files_view F.Files F.File.Source files.now) I.Source O.Sink
         (map string_bytes w.items) input.old input.new output.old output.new end)
-        (λ fault. IsSilent (words_line fault) input.old input.new output.old output.new end)) result
-        (λ end. Says E.written E.is_flushed E.has_failed end errors.old errors.new) }
+        (λ fault. DoesNothing (words_line fault) input.old input.new output.old output.new end))
+        result (λ end. Says E.Sink end errors.old errors.new) }
 {
     match words {
         Ok(words) => run_words(alloc, words, files, input, output, errors),
@@ -50,13 +46,9 @@ fn run_words<F: Files, I: Source, O: Sink, E: Sink>(
     output: &mut O,
     errors: &mut E,
 ) -> u8
-    ensures { Ends (RunsWords
-        (files_view F.File.returned F.File.ended F.File.reads F.File.has_failed
-        (F.origin files.now) (F.Refuses files.now))
-        (source_view I.returned I.ended I.reads I.has_failed)
-        (sink_view O.written O.is_flushed O.has_failed)
+    ensures { Ends (RunsWords (files_view F.Files F.File.Source files.now) I.Source O.Sink
         (map string_bytes words.items) input.old input.new output.old output.new) result
-        (λ end. Says E.written E.is_flushed E.has_failed end errors.old errors.new) }
+        (λ end. Says E.Sink end errors.old errors.new) }
 {
     match read_words(alloc, words) {
         Ok(asked) => end(run_asked(alloc, &asked, files, input, output), errors),
@@ -67,8 +59,7 @@ fn run_words<F: Files, I: Source, O: Sink, E: Sink>(
 /// Says why there is no answer, if there is none, and returns the exit status.
 fn end<E: Sink>(ended: Result<Status, NoAnswer<'_>>, errors: &mut E) -> u8
     ensures code { result ≡ exit_code (end_of ended.entry) }
-    ensures says { Says E.written E.is_flushed E.has_failed (end_of ended.entry)
-        errors.old errors.new }
+    ensures says { Says E.Sink (end_of ended.entry) errors.old errors.new }
 {
     match ended {
         Ok(status) => status.code(),

@@ -5,7 +5,7 @@ ghost use Rattle.vic_answer.specs.Tasks.{file_of};
 ghost use Rattle.vic_program.specs.Each.{OverEach};
 ghost use Rattle.vic_program.specs.Ends.{end_of};
 ghost use Rattle.vic_program.specs.Runs.{OverFile, RunsAsked, RunsTask, writes_of};
-ghost use Rattle.vic_program.specs.Sides.{files_view, sink_view, source_view};
+ghost use Rattle.vic_program.specs.FilesView.{files_view};
 
 use crate::each::run_over_each;
 use crate::files::Files;
@@ -25,11 +25,7 @@ pub fn run_asked<'a, F: Files, I: Source, O: Sink>(
     input: &mut I,
     output: &mut O,
 ) -> Result<Status, NoAnswer<'a>>
-    ensures { RunsAsked
-        (files_view F.File.returned F.File.ended F.File.reads F.File.has_failed
-        (F.origin files.now) (F.Refuses files.now))
-        (source_view I.returned I.ended I.reads I.has_failed)
-        (sink_view O.written O.is_flushed O.has_failed)
+    ensures { RunsAsked (files_view F.Files F.File.Source files.now) I.Source O.Sink
         asked.entry.now input.old input.new output.old output.new (end_of result) }
 {
     match asked {
@@ -52,13 +48,9 @@ fn run_task<'a, F: Files, I: Source, O: Sink>(
     input: &mut I,
     output: &mut O,
 ) -> Result<Status, NoAnswer<'a>>
-    ensures { RunsTask
-        (files_view F.File.returned F.File.ended F.File.reads F.File.has_failed
-        (F.origin files.now) (F.Refuses files.now))
-        (source_view I.returned I.ended I.reads I.has_failed)
-        (sink_view O.written O.is_flushed O.has_failed)
-        task.entry.now (file_of task.entry.now) input.old input.new output.old output.new (end_of
-        result) }
+    ensures { RunsTask (files_view F.Files F.File.Source files.now) I.Source O.Sink
+        task.entry.now (file_of task.entry.now)
+        input.old input.new output.old output.new (end_of result) }
 {
     match task.file() {
         Some(name) => run_over_file(alloc, task, files, name, output),
@@ -74,10 +66,7 @@ fn run_over_file<'a, F: Files, O: Sink>(
     name: &'a str,
     output: &mut O,
 ) -> Result<Status, NoAnswer<'a>>
-    ensures { OverFile
-        (files_view F.File.returned F.File.ended F.File.reads F.File.has_failed
-        (F.origin files.now) (F.Refuses files.now))
-        (sink_view O.written O.is_flushed O.has_failed)
+    ensures { OverFile (files_view F.Files F.File.Source files.now) O.Sink
         task.now name.entry.now output.old output.new (end_of result) }
 {
     match files.open(name) {
@@ -94,10 +83,7 @@ fn run_files_command<'a, F: Files, O: Sink>(
     names: &'a [String],
     output: &mut O,
 ) -> Result<Status, NoAnswer<'a>>
-    ensures { OverEach
-        (files_view F.File.returned F.File.ended F.File.reads F.File.has_failed
-        (F.origin files.now) (F.Refuses files.now))
-        (sink_view O.written O.is_flushed O.has_failed)
+    ensures { OverEach (files_view F.Files F.File.Source files.now) O.Sink
         (writes_of command) (map string_bytes names.entry.now)
         output.old output.new (end_of result) }
 {

@@ -1,10 +1,10 @@
 //! What is done for a command that reads one text to its end, before it writes anything.
 
 ghost use Rattle.std.specs.Prelude.{option_copied};
-ghost use Rattle.vic_object.specs.Object.{IsObjectOf};
+ghost use Rattle.vic_object.specs.Object.{IsJsonOf};
 ghost use Rattle.vic_program.specs.Ends.{end_of};
 ghost use Rattle.vic_program.specs.Single.{OverFileText, OverInputText, OverText, WritesFor};
-ghost use Rattle.vic_program.specs.Sides.{files_view, sink_view, source_view};
+ghost use Rattle.vic_program.specs.FilesView.{files_view};
 
 use crate::files::Files;
 use crate::no_answer::NoAnswer;
@@ -22,12 +22,8 @@ pub(crate) fn run_json<'a, F: Files, I: Source, O: Sink>(
     input: &mut I,
     output: &mut O,
 ) -> Result<Status, NoAnswer<'a>>
-    ensures { OverText
-        (files_view F.File.returned F.File.ended F.File.reads F.File.has_failed
-        (F.origin files.now) (F.Refuses files.now))
-        (source_view I.returned I.ended I.reads I.has_failed)
-        (sink_view O.written O.is_flushed O.has_failed)
-        IsObjectOf (option_copied file.entry)
+    ensures { OverText (files_view F.Files F.File.Source files.now) I.Source O.Sink
+        IsJsonOf (option_copied file.entry)
         input.old input.new output.old output.new (end_of result) }
 {
     match file {
@@ -43,11 +39,8 @@ fn write_file_object<'a, F: Files, O: Sink>(
     name: &'a str,
     output: &mut O,
 ) -> Result<Status, NoAnswer<'a>>
-    ensures { OverFileText
-        (files_view F.File.returned F.File.ended F.File.reads F.File.has_failed
-        (F.origin files.now) (F.Refuses files.now))
-        (sink_view O.written O.is_flushed O.has_failed)
-        IsObjectOf name.entry.now output.old output.new (end_of result) }
+    ensures { OverFileText (files_view F.Files F.File.Source files.now) O.Sink
+        IsJsonOf name.entry.now output.old output.new (end_of result) }
 {
     match file_text(alloc, files, name) {
         Ok(text) => write_object(alloc, text.as_slice(), output),
@@ -61,10 +54,8 @@ fn write_input_object<'a, I: Source, O: Sink>(
     input: &mut I,
     output: &mut O,
 ) -> Result<Status, NoAnswer<'a>>
-    ensures { OverInputText
-        (source_view I.returned I.ended I.reads I.has_failed)
-        (sink_view O.written O.is_flushed O.has_failed)
-        IsObjectOf input.old input.new output.old output.new (end_of result) }
+    ensures { OverInputText I.Source O.Sink
+        IsJsonOf input.old input.new output.old output.new (end_of result) }
 {
     match input_text(alloc, input) {
         Ok(text) => write_object(alloc, text.as_slice(), output),
@@ -78,9 +69,8 @@ fn write_object<'a, O: Sink>(
     text: &[u8],
     output: &mut O,
 ) -> Result<Status, NoAnswer<'a>>
-    ensures { WritesFor
-        (sink_view O.written O.is_flushed O.has_failed)
-        IsObjectOf text.now output.old output.new (end_of result) }
+    ensures { WritesFor O.Sink
+        IsJsonOf text.now output.old output.new (end_of result) }
 {
     match object_of(alloc, text) {
         Ok(object) => write_answer(&object, output),

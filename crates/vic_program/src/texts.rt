@@ -5,10 +5,11 @@ ghost use Rattle.vic_log.specs.Device.{Grows};
 ghost use Rattle.vic_log.specs.declared.source.ReadFault.TheVariants.{Read};
 ghost use Rattle.vic_answer.specs.Status.{fault_text};
 ghost use Rattle.vic_answer.specs.declared.status.RunFault.TheVariants.{Write};
-ghost use Rattle.vic_program.specs.Each.{IsCut, IsOut, IsTextOf, IsUnreadable};
+ghost use Rattle.vic_program.specs.Each.{IsTextOf, IsUnreadable};
 ghost use Rattle.vic_program.specs.Ends.{line_of};
-ghost use Rattle.vic_program.specs.Sides.{files_view, sink_view, source_view};
+ghost use Rattle.vic_program.specs.FilesView.{files_view};
 ghost use Rattle.vic_program.specs.Single.{IsInputText, IsInputUnfinished};
+ghost use Rattle.vic_program.specs.Written.{IsCut, IsOut};
 
 use crate::files::Files;
 use crate::no_answer::{NoAnswer, read_fault};
@@ -25,13 +26,9 @@ pub(crate) fn file_text<'a, F: Files>(
     files: &F,
     name: &'a str,
 ) -> Result<Vec<u8>, NoAnswer<'a>>
-    ensures text { IfOk result (λ text. IsTextOf
-        (files_view F.File.returned F.File.ended F.File.reads F.File.has_failed
-        (F.origin files.now) (F.Refuses files.now))
+    ensures text { IfOk result (λ text. IsTextOf (files_view F.Files F.File.Source files.now)
         name.entry.now text.items) }
-    ensures unread { IfErr result (λ why. IsUnreadable
-        (files_view F.File.returned F.File.ended F.File.reads F.File.has_failed
-        (F.origin files.now) (F.Refuses files.now))
+    ensures unread { IfErr result (λ why. IsUnreadable (files_view F.Files F.File.Source files.now)
         name.entry.now (line_of why)) }
 {
     match files.open(name) {
@@ -48,11 +45,9 @@ pub(crate) fn input_text<'a, I: Source>(
     alloc: Global,
     input: &mut I,
 ) -> Result<Vec<u8>, NoAnswer<'a>>
-    ensures text { IfOk result (λ text. IsInputText
-        (source_view I.returned I.ended I.reads I.has_failed)
+    ensures text { IfOk result (λ text. IsInputText I.Source
         input.old input.new text.items) }
-    ensures unread { IfErr result (λ why. IsInputUnfinished
-        (source_view I.returned I.ended I.reads I.has_failed)
+    ensures unread { IfErr result (λ why. IsInputUnfinished I.Source
         input.old input.new (line_of why)) }
 {
     if input.failed() {
@@ -94,11 +89,9 @@ pub(crate) fn write_answer<'a, O: Sink>(
     output: &mut O,
 ) -> Result<Status, NoAnswer<'a>>
     ensures status { IfOk result (λ s. s ≡ answer.now.status) }
-    ensures out { IfOk result (λ _. IsOut
-        (sink_view O.written O.is_flushed O.has_failed)
+    ensures out { IfOk result (λ _. IsOut O.Sink
         output.old output.new answer.now.text.items) }
-    ensures cut { IfErr result (λ _. IsCut
-        (sink_view O.written O.is_flushed O.has_failed)
+    ensures cut { IfErr result (λ _. IsCut O.Sink
         output.old output.new answer.now.text.items) }
     ensures fault { IfErr result (λ why. line_of why ≡ fault_text Write) }
 {

@@ -2,10 +2,10 @@
 //!
 //! The first finding of a report is the verdict of `vic_verdict::judge` (`LogReport::verdict`). The
 //! lines of absent UIDs are read off a walk over the log; those of certain UIDs are noted in one
-//! pass over the lines and one over the unread slots. The lines of a conflict are guessed by
-//! `vic_guess` and checked here, except that a reply of a Quiet tag is a conflict by itself. Only
-//! tested: that the reply shown for a certain UID is its first, and that no line of a conflict can
-//! be left out.
+//! pass over the lines and one over the unread slots: the first reply, if the UID was heard. The
+//! lines of a conflict are guessed by `vic_guess` and checked here, except that a reply of a Quiet
+//! tag is a conflict by itself. All of this is proved, but for one point that is only tested: that
+//! no line of a conflict can be left out.
 #![tactic(auto)]
 
 mod absent_lines;

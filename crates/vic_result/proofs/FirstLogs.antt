@@ -8,13 +8,13 @@ use Rattle.std.proofs.Common.{is_some}
 use Rattle.std.specs.Ordering.{nat_cmp}
 use Rattle.vic_frame.specs.Uids.{has}
 use Rattle.vic_survey.specs.Surveys.{SurveyValue}
-use Rattle.vic_survey.specs.declared.survey.Field.{Field}
-use Rattle.vic_survey.specs.declared.survey.Field.TheVariants.{Refused, Impossible, Possible}
+use Rattle.vic_survey.specs.declared.survey.SurveyedField.{SurveyedField}
+use Rattle.vic_survey.specs.declared.survey.SurveyedField.TheVariants.{Refused, Impossible, Possible}
 use Rattle.vic_table.specs.Values.{ItemValue}
 use Rattle.vic_collection.specs.Collections.{CollectionValue, is_certain_by, is_certain_in, is_certain_somewhere, is_possible_by, is_possible_in, is_possible_somewhere}
-use Rattle.vic_collection.specs.States.{is_certain_at, is_uncounted, state_by, state_of}
+use Rattle.vic_collection.specs.States.{is_certain_at, is_place_without_log, state_by, state_of}
 use Rattle.vic_collection.specs.declared.state.State.{State}
-use Rattle.vic_collection.specs.declared.state.State.TheVariants.{Returned, InPlace, Misplaced, There, NotProvable, Away, NotCounted, Missing}
+use Rattle.vic_collection.specs.declared.state.State.TheVariants.{Returned, InPlace, Misplaced, There, Doubtful, Away, NotCounted, Absent}
 use Rattle.vic_result.specs.NamesAt.{name_at}
 use Rattle.vic_result.specs.ResultLines.{first_name, first_possible}
 use Rattle.vic_result.specs.ResultTable.{names_where}
@@ -90,7 +90,7 @@ noted_more log x us u old now new put before = put ∙ rw (at_same x u, list_any
 
 -- ---- items that aren't provable
 
-possible_by : (f : Field) (u : ℕ) → is_possible_by f u ≡ (is_certain_by f u || leaves_open_by f u)
+possible_by : (f : SurveyedField) (u : ℕ) → is_possible_by f u ≡ (is_certain_by f u || leaves_open_by f u)
 possible_by (Possible s) u = refl
 possible_by (Refused n fault) u = refl
 possible_by (Impossible n) u = refl
@@ -114,11 +114,11 @@ open_somewhere u (s ∷ surveys) none = rw (possible_by s.field u) (go (is_certa
   go false e rest = ap (λ (b : Bool). leaves_open s u || b) (rest e)
 
 -- it is certain nowhere, and may be somewhere
-nowhere_certain : (c : CollectionValue) (item : ItemValue) (u : ℕ) → item.uid ≡ Some u → state_of c item ≡ NotProvable → (is_certain_somewhere c u ≡ false) × (is_possible_somewhere c u ≡ true)
+nowhere_certain : (c : CollectionValue) (item : ItemValue) (u : ℕ) → item.uid ≡ Some u → state_of c item ≡ Doubtful → (is_certain_somewhere c u ≡ false) × (is_possible_somewhere c u ≡ true)
 nowhere_certain c item u uid is =
-    let w = certain item.away (is_certain_somewhere c u) (is_certain_at c item.place u) (is_some item.place) (cond (is_possible_somewhere c u) NotProvable (cond item.away Away (cond (is_uncounted c item.place) NotCounted Missing))) (ap (state_by c item) (sym uid) ∙ is) in
-    (w.0, possible (is_possible_somewhere c u) item.away (is_uncounted c item.place) w.1) where
-      certain : (away k at placed : Bool) (rest : State) → cond (away && k) Returned (cond at InPlace (cond (placed && k) Misplaced (cond k There rest))) ≡ NotProvable → (k ≡ false) × (rest ≡ NotProvable)
+    let w = certain item.away (is_certain_somewhere c u) (is_certain_at c item.place u) (is_some item.place) (cond (is_possible_somewhere c u) Doubtful (cond item.away Away (cond (is_place_without_log c item.place) NotCounted Absent))) (ap (state_by c item) (sym uid) ∙ is) in
+    (w.0, possible (is_possible_somewhere c u) item.away (is_place_without_log c item.place) w.1) where
+      certain : (away k at placed : Bool) (rest : State) → cond (away && k) Returned (cond at InPlace (cond (placed && k) Misplaced (cond k There rest))) ≡ Doubtful → (k ≡ false) × (rest ≡ Doubtful)
       certain true true at placed rest e = absurd cc
       certain false true true placed rest e = absurd cc
       certain false true false true rest e = absurd cc
@@ -130,16 +130,16 @@ nowhere_certain c item u uid is =
       certain false false false true rest e = (refl, e)
       certain false false false false rest e = (refl, e)
 
-      possible : (p away uncounted : Bool) → cond p NotProvable (cond away Away (cond uncounted NotCounted Missing)) ≡ NotProvable → p ≡ true
-      possible true away uncounted e = refl
-      possible false true uncounted e = absurd cc
+      possible : (p away place_without_log : Bool) → cond p Doubtful (cond away Away (cond place_without_log NotCounted Absent)) ≡ Doubtful → p ≡ true
+      possible true away place_without_log e = refl
+      possible false true place_without_log e = absurd cc
       possible false false true e = absurd cc
       possible false false false e = absurd cc
 
-pub doubtful_left : (c : CollectionValue) (item : ItemValue) (u : ℕ) → item.uid ≡ Some u → state_of c item ≡ NotProvable → is_open_somewhere c.surveys u ≡ true
+pub doubtful_left : (c : CollectionValue) (item : ItemValue) (u : ℕ) → item.uid ≡ Some u → state_of c item ≡ Doubtful → is_open_somewhere c.surveys u ≡ true
 doubtful_left c item u uid is = let w = nowhere_certain c item u uid is in open_somewhere u c.surveys w.0 ∙ w.1
 
-pub doubtful_first : (c : CollectionValue) (item : ItemValue) (u : ℕ) (logs : BTreeMap ℕ ℕ) → item.uid ≡ Some u → state_of c item ≡ NotProvable → get nat_cmp logs u ≡ Some (0 + first_open c.surveys u) → name_in c.surveys logs u ≡ first_possible c u
+pub doubtful_first : (c : CollectionValue) (item : ItemValue) (u : ℕ) (logs : BTreeMap ℕ ℕ) → item.uid ≡ Some u → state_of c item ≡ Doubtful → get nat_cmp logs u ≡ Some (0 + first_open c.surveys u) → name_in c.surveys logs u ≡ first_possible c u
 doubtful_first c item u logs uid is noted =
     let same : 0 + first_open c.surveys u ≡ first_open c.surveys u = omega arith in
     ap (λ o. option_map_or (name_at c.surveys) o []) noted ∙ (ap (name_at c.surveys) same ∙ first_named u c.surveys (nowhere_certain c item u uid is).0)

@@ -5,8 +5,12 @@ use Rattle.vic_frame.specs.Uids.{has}
 use Rattle.vic_verdict.specs.Rising.{IsListOf}
 use Rattle.std.proofs.lemmas.List.{get_or-map}
 use Rattle.vic_collection.specs.declared.unlisted.UnlistedUid.{UnlistedUid}
+use Rattle.std.specs.Option.{option_map}
+use Rattle.std.proofs.lemmas.Option.{slice_get-map}
 use Rattle.vic_table.specs.Values.{ItemValue}
-use Rattle.vic_collection.specs.Collections.{CollectionValue, certain_logs, is_certain_in, is_certain_somewhere, is_named, is_unexpected, is_number, is_of_item, is_undecided_in, possible_logs}
+use Rattle.vic_collection.specs.States.{state_of}
+use Rattle.vic_collection.specs.declared.state.State.{State}
+use Rattle.vic_collection.specs.Collections.{CollectionValue, certain_logs, is_certain_in, is_certain_somewhere, is_named, is_unlisted, is_number, is_of_item, is_undecided_in, possible_logs}
 use Rattle.vic_result.specs.ResultCells.{names_text}
 use Rattle.vic_result.specs.ResultTable.{cells_by, logs_by, uid_cells}
 use Rattle.vic_result.specs.NamesAt.{names_at}
@@ -27,9 +31,9 @@ or_true false b e = e
 pub item_named : (c : CollectionValue) (i : ℕ) (item : ItemValue) (u : ℕ) → slice_get c.catalogue.items i ≡ Some item → item.uid ≡ Some u → is_named c u ≡ true
 item_named c i item u at is = or_true _ (is_of_item c u) (list_any_at (λ (x : ItemValue). is_number u x.uid) c.catalogue.items i item (slice_get_within c.catalogue.items i item at) (ap (λ (x : ItemValue). is_number u x.uid) (get_or_from_slice_get c.catalogue.items i item item at) ∙ (ap (is_number u) is ∙ eq-eqb u u refl)))
 
--- an unexpected UID is named, and so is each in the list of them
-pub unexpected_named : (c : CollectionValue) (u : ℕ) → is_unexpected c u ≡ true → is_named c u ≡ true
-unexpected_named c u is = front (is_certain_somewhere c u) _ _ is where
+-- an unlisted UID is named, and so is each in the list of them
+pub unlisted_named : (c : CollectionValue) (u : ℕ) → is_unlisted c u ≡ true → is_named c u ≡ true
+unlisted_named c u is = front (is_certain_somewhere c u) _ _ is where
   front : (a b d : Bool) → a && b ≡ true → a || d ≡ true
   front true b d e = refl
   front false b d e = absurd cc
@@ -40,5 +44,11 @@ uid_among uid xs k d lt =
     let u = uid (get_or xs k d) in
     list_any_at (nat_eq u) (map uid xs) k 0 (subst (λ n. k < n) (sym (length-map xs uid)) lt) (ap (nat_eq u) (get_or-map uid xs k d 0 lt) ∙ eq-eqb u u refl)
 
-pub unexpected_at : (P : ℕ → Type 0) (xs : List UnlistedUid) → IsListOf P (map (λ x. x.uid) xs) → (k : ℕ) (d : UnlistedUid) → k < length xs → P (get_or xs k d).uid
-unexpected_at P xs list k d lt = (list.members (get_or xs k d).uid).0 (uid_among (λ (x : UnlistedUid). x.uid) xs k d lt)
+pub unlisted_at : (P : ℕ → Type 0) (xs : List UnlistedUid) → IsListOf P (map (λ x. x.uid) xs) → (k : ℕ) (d : UnlistedUid) → k < length xs → P (get_or xs k d).uid
+unlisted_at P xs list k d lt = (list.members (get_or xs k d).uid).0 (uid_among (λ (x : UnlistedUid). x.uid) xs k d lt)
+
+-- the state of an item, among those of all
+pub state_there : (c : CollectionValue) (states : List State) (i : ℕ) (item : ItemValue) (state : State) → states ≡ map (state_of c) c.catalogue.items → slice_get c.catalogue.items i ≡ Some item → slice_get states i ≡ Some state → state ≡ state_of c item
+state_there c states i item state are at is =
+    let both : Some state ≡ Some (state_of c item) = sym is ∙ (ap (λ l. slice_get l i) are ∙ (slice_get-map (state_of c) c.catalogue.items i ∙ ap (option_map (state_of c)) at)) in
+    cc both

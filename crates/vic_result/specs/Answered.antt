@@ -1,17 +1,18 @@
 -- The line of the answer of a collection, and its status (profile).
-use Rattle.std.specs.Prelude.{ℕ, List, [], ◌++◌, codes, decimal, slice_get}
+use Rattle.std.specs.Prelude.{◌≡◌, ℕ, List, [], ◌++◌, codes, decimal, slice_get}
 use Rattle.std.specs.Option.{option_map_or}
 use Rattle.vic_log.specs.Names.{line_fault_name}
 use Rattle.vic_text.specs.Digits.{mask_text, uid_text}
-use Rattle.vic_survey.specs.declared.survey.Field.{Field}
-use Rattle.vic_survey.specs.declared.survey.Field.TheVariants.{Refused, Impossible, Possible}
+use Rattle.vic_survey.specs.declared.survey.SurveyedField.{SurveyedField}
+use Rattle.vic_survey.specs.declared.survey.SurveyedField.TheVariants.{Refused, Impossible, Possible}
+use Rattle.vic_collection.specs.Answers.{IsAnswer}
 use Rattle.vic_collection.specs.Collections.{CollectionValue}
 use Rattle.vic_collection.specs.declared.answer.CollectionAnswer.{CollectionAnswer}
 use Rattle.vic_collection.specs.declared.answer.CollectionAnswer.TheVariants as answer
 use Rattle.vic_result.specs.NamesAt.{name_at}
 
 -- why a log isn't possible
-abbrev pub not_possible_line : List ℕ → Field → List ℕ
+abbrev pub not_possible_line : List ℕ → SurveyedField → List ℕ
 not_possible_line name (Refused n fault) =
     codes "refused at line " ++ decimal n ++ codes " of " ++ name ++ codes ": "
     ++ line_fault_name fault
@@ -19,7 +20,7 @@ not_possible_line name (Impossible n) =
     codes "impossible at line " ++ decimal n ++ codes " of " ++ name
 not_possible_line name (Possible s) = []
 
-abbrev pub not_possible_status : Field → ℕ
+abbrev pub not_possible_status : SurveyedField → ℕ
 not_possible_status (Refused n fault) = 3
 not_possible_status (Impossible n) = 2
 not_possible_status (Possible s) = 3
@@ -53,3 +54,7 @@ answer_status c (answer.Returned u) = 1
 answer_status c (answer.NotCounted u) = 1
 answer_status c (answer.WithoutLog place) = 1
 answer_status c (answer.LeftOver log) = 1
+
+-- it is the status of the answer of the collection
+abbrev pub IsAnswerStatus : CollectionValue → ℕ → Type 0
+IsAnswerStatus c status = (a : CollectionAnswer) × IsAnswer c a × (status ≡ answer_status c a)

@@ -1,12 +1,12 @@
 -- The least margin of the logs of a collection, and the first log that has it (profile).
 use Rattle.std.specs.Prelude.{ℕ, ◌+◌, nat_le, if◌then◌else◌, Option, Some, None, List, [], ◌∷◌}
 use Rattle.vic_survey.specs.Surveys.{SurveyValue}
-use Rattle.vic_survey.specs.declared.survey.Field.{Field}
-use Rattle.vic_survey.specs.declared.survey.Field.TheVariants.{Refused, Impossible, Possible}
-use Rattle.vic_result.specs.declared.margins.LogMargin.{LogMargin}
+use Rattle.vic_survey.specs.declared.survey.SurveyedField.{SurveyedField}
+use Rattle.vic_survey.specs.declared.survey.SurveyedField.TheVariants.{Refused, Impossible, Possible}
+use Rattle.vic_result.specs.declared.object.margins.LogMargin.{LogMargin}
 
 -- the margin of a log, at a position
-abbrev pub margin_of : ℕ → Field → Option LogMargin
+abbrev pub margin_of : ℕ → SurveyedField → Option LogMargin
 margin_of k (Possible s) = Some (record { margin = s.margin; weakest = s.weakest; log = k })
 margin_of k (Refused n fault) = None
 margin_of k (Impossible n) = None

@@ -8,7 +8,7 @@ use Rattle.vic_text.specs.Digits.{mask_text, uid_text}
 use Rattle.vic_survey.specs.Surveys.{SurveyValue}
 use Rattle.vic_collection.specs.Collections.{CollectionValue, is_certain_in, is_possible_in}
 use Rattle.vic_collection.specs.Answers.{IsAnswer}
-use Rattle.vic_collection.specs.Findings.{AreFindings, AreOpenMasksOf}
+use Rattle.vic_collection.specs.Findings.{AreFindings, AreOpenMasksOfSurvey}
 use Rattle.vic_collection.specs.Joins.{is_left_over, places_without_log}
 use Rattle.vic_collection.specs.declared.answer.CollectionAnswer.{CollectionAnswer}
 use Rattle.vic_collection.specs.declared.answer.CollectionAnswer.TheVariants as answer
@@ -107,7 +107,7 @@ unsettled_lines c m masks =
 abbrev pub AreUnsettledLines : CollectionValue → Option BitMask → List ℕ → Type 0
 AreUnsettledLines c None text = text ≡ []
 AreUnsettledLines c (Some m) text =
-    (masks : List OpenMasks) × AllZip (AreOpenMasksOf c) c.surveys masks
+    (masks : List OpenMasks) × AllZip (AreOpenMasksOfSurvey c) c.surveys masks
     × (text ≡ unsettled_lines c m masks)
 
 -- ---- all lines
@@ -139,7 +139,7 @@ AreLinesBy c f (answer.Complete count) text = text ≡ ended (answer_line c (ans
 AreLinesBy c f a text = AreFindingLines c f text
 
 -- a text is the lines of the collection
-pub record AreLinesOf (c : CollectionValue) (text : List ℕ) : Type 0 where
+pub record AreCollectionLines (c : CollectionValue) (text : List ℕ) : Type 0 where
   pub findings : Findings
   pub are_findings : AreFindings c findings
   pub answer : CollectionAnswer

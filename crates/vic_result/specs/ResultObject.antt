@@ -9,14 +9,14 @@ use Rattle.vic_report.specs.declared.shown.ShownUid.{ShownUid}
 use Rattle.vic_tree.specs.declared.open_masks.OpenMasks.{OpenMasks}
 use Rattle.vic_text.specs.Json.{comma_joined, json_bool, json_list, json_mask, json_option, json_string, json_uid}
 use Rattle.vic_survey.specs.Surveys.{SurveyValue}
-use Rattle.vic_survey.specs.declared.survey.Field.{Field}
-use Rattle.vic_survey.specs.declared.survey.Field.TheVariants.{Refused, Impossible, Possible}
-use Rattle.vic_survey.specs.declared.survey.Seen.{Seen}
+use Rattle.vic_survey.specs.declared.survey.SurveyedField.{SurveyedField}
+use Rattle.vic_survey.specs.declared.survey.SurveyedField.TheVariants.{Refused, Impossible, Possible}
+use Rattle.vic_survey.specs.declared.survey.FieldFacts.{FieldFacts}
 use Rattle.vic_table.specs.Cells.{cells_of}
 use Rattle.vic_table.specs.Values.{ItemValue}
 use Rattle.vic_collection.specs.Collections.{CollectionValue, certain_logs, possible_logs}
 use Rattle.vic_collection.specs.Answers.{IsAnswer}
-use Rattle.vic_collection.specs.Findings.{AreFindings, AreOpenMasksOf}
+use Rattle.vic_collection.specs.Findings.{AreFindings, AreOpenMasksOfSurvey}
 use Rattle.vic_collection.specs.Joins.{is_left_over, place_of_log, places_without_log}
 use Rattle.vic_collection.specs.declared.answer.CollectionAnswer.{CollectionAnswer}
 use Rattle.vic_collection.specs.declared.answer.CollectionAnswer.TheVariants as kind
@@ -24,7 +24,7 @@ use Rattle.vic_collection.specs.declared.findings.Findings.{Findings}
 use Rattle.vic_collection.specs.declared.unlisted.UnlistedUid.{UnlistedUid}
 use Rattle.vic_result.specs.Answered.{answer_line, answer_status}
 use Rattle.vic_result.specs.LeastMargin.{least_margin}
-use Rattle.vic_result.specs.declared.margins.LogMargin.{LogMargin}
+use Rattle.vic_result.specs.declared.object.margins.LogMargin.{LogMargin}
 use Rattle.vic_collection.specs.States.{state_of}
 use Rattle.vic_collection.specs.declared.state.State.{State}
 use Rattle.vic_result.specs.StateNames.{all_states, state_name}
@@ -74,12 +74,12 @@ item_of_json c item = item_json (separator_of c) item (state_name (state_of c it
     (logs_by (certain_logs c) item.uid) (logs_by (possible_logs c) item.uid)
 
 -- a UID of no item, with a line of the first log in which it is certain
-abbrev pub extra_json : CollectionValue → ℕ → ℕ → List ℕ
-extra_json c u line =
+abbrev pub unlisted_uid_json : CollectionValue → ℕ → ℕ → List ℕ
+unlisted_uid_json c u line =
     codes "{\"uid\":" ++ json_uid u ++ logs_json (certain_logs c u) (possible_logs c u)
     ++ codes ",\"line\":" ++ decimal line ++ codes "}"
 
--- ---- how many items are in each state, and how many UIDs are unexpected
+-- ---- how many items are in each state, and how many UIDs are unlisted
 
 -- how many of some states have a name
 abbrev pub count_named : List State → List ℕ → ℕ
@@ -90,14 +90,14 @@ count_json states name =
     codes "\"" ++ name ++ codes "\":" ++ decimal (count_named states name) ++ codes ","
 
 abbrev pub counts_json : List State → ℕ → List ℕ
-counts_json states unexpected =
+counts_json states unlisted =
     codes "{" ++ flat_map (λ kind. count_json states (state_name kind)) all_states
-    ++ codes "\"unexpected\":" ++ decimal unexpected ++ codes "}"
+    ++ codes "\"unexpected\":" ++ decimal unlisted ++ codes "}"
 
 -- ---- logs
 
 -- what a log says of its field, in a line
-abbrev pub field_line : Field → List ℕ
+abbrev pub field_line : SurveyedField → List ℕ
 field_line (Refused n fault) =
     codes "refused at line " ++ decimal n ++ codes ": " ++ line_fault_name fault
 field_line (Impossible n) = codes "impossible at line " ++ decimal n
@@ -125,7 +125,7 @@ open_masks_json o =
     ++ codes ",\"more\":" ++ json_bool o.more
 
 -- how far it reaches
-abbrev pub seen_reach_json : Seen → List ℕ
+abbrev pub seen_reach_json : FieldFacts → List ℕ
 seen_reach_json s =
     codes ",\"margin\":" ++ decimal s.margin
     ++ codes ",\"weakest\":" ++ json_mask s.weakest
@@ -133,7 +133,7 @@ seen_reach_json s =
     ++ codes ",\"deaf\":" ++ json_option json_mask s.deaf
 
 -- what a log says, with its first open masks
-abbrev pub field_json : CollectionValue → OpenMasks → Field → List ℕ
+abbrev pub field_json : CollectionValue → OpenMasks → SurveyedField → List ℕ
 field_json c o (Refused n fault) = []
 field_json c o (Impossible n) = []
 field_json c o (Possible s) =
@@ -155,7 +155,7 @@ log_json c o s =
 
 -- the same as a text: with the masks that the log leaves open
 abbrev pub IsLogText : CollectionValue → SurveyValue → List ℕ → Type 0
-IsLogText c s text = (o : OpenMasks) × AreOpenMasksOf c s o × (text ≡ log_json c o s)
+IsLogText c s text = (o : OpenMasks) × AreOpenMasksOfSurvey c s o × (text ≡ log_json c o s)
 
 -- ---- the members of the object
 
@@ -173,8 +173,8 @@ margin_json margin weakest log =
 
 -- how many items are in each state, the columns, and whether the catalogue ends by LF
 abbrev pub catalogue_json : CollectionValue → ℕ → List ℕ
-catalogue_json c unexpected =
-    codes ",\"counts\":" ++ counts_json (map (state_of c) c.catalogue.items) unexpected
+catalogue_json c unlisted =
+    codes ",\"counts\":" ++ counts_json (map (state_of c) c.catalogue.items) unlisted
     ++ codes ",\"columns\":" ++ cells_json (separator_of c) c.catalogue.head
     ++ codes ",\"ended\":" ++ json_bool (ends_with lf c.catalogue.text)
 
@@ -212,23 +212,23 @@ margin_member c (kind.NotCounted u) = []
 margin_member c (kind.WithoutLog place) = []
 margin_member c (kind.LeftOver log) = []
 
-abbrev pub extra_of : CollectionValue → UnlistedUid → List ℕ
-extra_of c x = extra_json c x.uid x.line
+abbrev pub unlisted_json : CollectionValue → UnlistedUid → List ℕ
+unlisted_json c x = unlisted_uid_json c x.uid x.line
 
-abbrev pub extras_json : CollectionValue → List UnlistedUid → List ℕ
-extras_json c extras =
-    codes ",\"unexpected\":[" ++ comma_joined (map (extra_of c) extras) ++ codes "]"
+abbrev pub unlisted_list_json : CollectionValue → List UnlistedUid → List ℕ
+unlisted_list_json c unlisted =
+    codes ",\"unexpected\":[" ++ comma_joined (map (unlisted_json c) unlisted) ++ codes "]"
 
 -- the text of the object, by the findings, the answer, and the texts of the logs
 abbrev pub object_json : CollectionValue → Findings → CollectionAnswer → List (List ℕ) → List ℕ
 object_json c f a logs =
     answer_json (answer_status c a) (answer_line c a) ++ margin_member c a
     ++ catalogue_json c (length f.unlisted.items) ++ items_json c
-    ++ extras_json c f.unlisted.items
+    ++ unlisted_list_json c f.unlisted.items
     ++ lacking_json f.unsettled (places_without_log c) ++ logs_list_json logs
 
 -- a text is the object of the collection
-pub record IsObjectOf (c : CollectionValue) (text : List ℕ) : Type 0 where
+pub record IsCollectionObject (c : CollectionValue) (text : List ℕ) : Type 0 where
   pub findings : Findings
   pub are_findings : AreFindings c findings
   pub answer : CollectionAnswer

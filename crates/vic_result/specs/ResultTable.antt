@@ -9,7 +9,7 @@ use Rattle.vic_table.specs.Lines.{has_mark, mark}
 use Rattle.vic_table.specs.Values.{ItemValue}
 use Rattle.vic_table.specs.declared.columns.CatalogueColumns.{CatalogueColumns}
 use Rattle.vic_text.specs.Digits.{uid_text}
-use Rattle.vic_collection.specs.Collections.{CollectionValue, is_certain_in, is_undecided_in, is_unexpected}
+use Rattle.vic_collection.specs.Collections.{CollectionValue, is_certain_in, is_undecided_in, is_unlisted}
 use Rattle.vic_collection.specs.States.{state_of}
 use Rattle.vic_result.specs.StateNames.{state_name}
 use Rattle.vic_result.specs.ResultCells.{cells_text, names_text}
@@ -51,8 +51,8 @@ abbrev pub head_line : CollectionValue → List ℕ
 head_line c = c.catalogue.head ++ cells_text (separator_of c) new_columns
 
 -- the row of an item
-abbrev pub item_line : CollectionValue → ItemValue → List ℕ
-item_line c item =
+abbrev pub item_row : CollectionValue → ItemValue → List ℕ
+item_row c item =
     item.row ++ cells_text (separator_of c) (cells_by c (state_name (state_of c item)) item.uid)
 
 -- a row whose cell `uid` is a question mark and the UID, and whose other cells are empty
@@ -62,15 +62,15 @@ row_of_uid columns u =
     ++ replicate (columns.count - columns.uid - 1) (separator_byte columns.separator)
 
 -- the row of a UID that is certain, and of no item
-abbrev pub unexpected_line : CollectionValue → ℕ → List ℕ
-unexpected_line c u =
+abbrev pub unlisted_row : CollectionValue → ℕ → List ℕ
+unlisted_row c u =
     row_of_uid c.catalogue.columns u
     ++ cells_text (separator_of c) (uid_cells c (codes "unexpected") u)
 
--- all lines, where these UIDs are unexpected
+-- all lines, where these UIDs are unlisted
 abbrev pub result_lines : CollectionValue → List ℕ → List (List ℕ)
-result_lines c unexpected =
-    head_line c ∷ map (item_line c) c.catalogue.items ++ map (unexpected_line c) unexpected
+result_lines c unlisted =
+    head_line c ∷ map (item_row c) c.catalogue.items ++ map (unlisted_row c) unlisted
 
 -- the mark of UTF-8 where the catalogue has it
 abbrev pub mark_of : List ℕ → List ℕ
@@ -78,12 +78,12 @@ mark_of text = if has_mark text then mark else []
 
 -- the text of the table: each line ends as the first line of the catalogue
 abbrev pub table_text : CollectionValue → List ℕ → List ℕ
-table_text c unexpected =
+table_text c unlisted =
     mark_of c.catalogue.text
-    ++ flat_map (λ line. line ++ c.catalogue.head_end) (result_lines c unexpected)
+    ++ flat_map (λ line. line ++ c.catalogue.head_end) (result_lines c unlisted)
 
--- a text is the table, with the unexpected UIDs in rising order
-abbrev pub IsTableOf : CollectionValue → List ℕ → Type 0
-IsTableOf c text =
-    (unexpected : List ℕ) × IsListOf (λ u. is_unexpected c u ≡ true) unexpected
-    × (text ≡ table_text c unexpected)
+-- a text is the table, with the unlisted UIDs in rising order
+abbrev pub IsCollectionTable : CollectionValue → List ℕ → Type 0
+IsCollectionTable c text =
+    (unlisted : List ℕ) × IsListOf (λ u. is_unlisted c u ≡ true) unlisted
+    × (text ≡ table_text c unlisted)

@@ -2,14 +2,23 @@
 
 ghost use Rattle.std.specs.Prelude.{◌≡◌, ◌++◌, OnOk, codes, decimal};
 ghost use Rattle.vic_text.specs.Digits.{mask_text, uid_text};
-ghost use Rattle.vic_result.specs.Answered.{answer_line, answer_status, not_possible_line, not_possible_status};
+ghost use Rattle.vic_collection.specs.Findings.{AreFindings};
+ghost use Rattle.vic_result.specs.Answered.{IsAnswerStatus, answer_line, answer_status, not_possible_line, not_possible_status};
 
 use crate::names::name_at;
 use std::alloc::AllocError;
-use vic_collection::{Collection, CollectionAnswer};
+use vic_collection::{Collection, CollectionAnswer, Findings};
 use vic_frame::{Mask, Uid};
-use vic_survey::Field;
+use vic_survey::SurveyedField;
 use vic_text::{push_decimal, push_mask, push_uid};
+
+/// What is written of a collection, with the status of its answer.
+#[derive(Drop)]
+pub struct ResultText {
+    pub text: Vec<u8>,
+    /// From 0 to 3.
+    pub status: u8,
+}
 
 /// Appends the line of an answer, without an end.
 pub fn push_answer_line(
@@ -51,14 +60,22 @@ pub fn answer_status(collection: &Collection, answer: &CollectionAnswer<'_>) -> 
     }
 }
 
+/// The status of the collection that has these findings.
+pub(crate) fn status_by(collection: &Collection, findings: &Findings<'_>) -> u8
+    requires { AreFindings collection.now findings.now }
+    ensures { IsAnswerStatus collection.now result }
+{
+    answer_status(collection, &findings.answer())
+}
+
 /// The status of a log that isn't possible.
-fn not_possible_status(field: &Field) -> u8
+fn not_possible_status(field: &SurveyedField) -> u8
     ensures { result ≡ not_possible_status field.now }
 {
     match field {
-        Field::Refused { .. } => 3,
-        Field::Impossible { .. } => 2,
-        Field::Possible(_) => 3,
+        SurveyedField::Refused { .. } => 3,
+        SurveyedField::Impossible { .. } => 2,
+        SurveyedField::Possible(_) => 3,
     }
 }
 
@@ -80,23 +97,37 @@ fn push_not_possible_at(
 }
 
 /// Appends why a log isn't possible.
-fn push_not_possible(text: &mut Vec<u8>, name: &[u8], field: &Field) -> Result<(), AllocError>
+fn push_not_possible(
+    text: &mut Vec<u8>,
+    name: &[u8],
+    field: &SurveyedField,
+) -> Result<(), AllocError>
     ensures { OnOk result
         (text.new.items ≡ text.old.items ++ not_possible_line name.now field.now) }
 {
     match field {
-        Field::Refused { line, fault } => {
-            push_at_line(text, b"refused at line ", *line, name)?;
+        SurveyedField::Refused { line, fault } => {
+            push_line_of_log(text, b"refused at line ", *line, name)?;
             text.extend_from_slice(b": ")?;
             text.extend_from_slice(fault.name().as_bytes())
         }
-        Field::Impossible { line } => push_at_line(text, b"impossible at line ", *line, name),
-        Field::Possible(_) => Ok(()),
+        SurveyedField::Impossible { line } => push_line_of_log(
+            text,
+            b"impossible at line ",
+            *line,
+            name,
+        ),
+        SurveyedField::Possible(_) => Ok(()),
     }
 }
 
 /// Appends words, the number of a line and a name.
-fn push_at_line(text: &mut Vec<u8>, words: &[u8], line: u32, name: &[u8]) -> Result<(), AllocError>
+fn push_line_of_log(
+    text: &mut Vec<u8>,
+    words: &[u8],
+    line: u32,
+    name: &[u8],
+) -> Result<(), AllocError>
     ensures { OnOk result (text.new.items
         ≡ text.old.items ++ (words.now ++ decimal line ++ codes " of " ++ name.now)) }
 {

@@ -1,30 +1,23 @@
-//! What is written of a collection: its table, its lines, and its object in JSON.
+//! What is written of a collection, in three forms:
+//!
+//! - `table` is its table: each row of the catalogue with three cells more;
+//! - `lines` is its lines: all findings, or the line of the answer;
+//! - `object` is its object in JSON.
+//!
+//! Below all three are `answered`, the line of an answer and its status; `uid_logs`, in which logs
+//! a UID is; and `names` and `states`, what logs and states are called. `push_..` adds to a text.
 #![tactic(auto)]
 
 mod answered;
-mod cells;
-mod counts;
-mod finding_lines;
-mod first_logs;
-mod head;
-mod items;
 mod lines;
-mod lists;
-mod log_lines;
-mod log_list;
-mod logs;
-mod margins;
-mod members;
 mod names;
 mod object;
-mod result_lines;
 mod states;
 mod table;
-mod values;
+mod uid_logs;
 
-pub use answered::{answer_status, push_answer_line};
-pub use margins::LogMargin;
-pub use object::object_text;
-pub use result_lines::lines_text;
+pub use answered::{ResultText, answer_status, push_answer_line};
+pub use lines::lines_text;
+pub use object::{LogMargin, object_text};
 pub use states::state_name;
 pub use table::table_text;

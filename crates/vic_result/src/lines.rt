@@ -1,89 +1,86 @@
-//! The lines of a result.
+//! The lines of a collection.
 
-ghost use Rattle.std.specs.Prelude.{◌≡◌, ◌<◌, ◌++◌, ◌∷◌, [], OnOk, IsSomeAnd, length, slice_get, codes};
-ghost use Rattle.vic_table.specs.Columns.{separator_byte};
-ghost use Rattle.vic_result.specs.ResultCells.{cells_text, names_text};
-ghost use Rattle.vic_result.specs.ResultTable.{row_of_uid};
-ghost use Rattle.vic_result.specs.StateNames.{state_name};
-ghost use Rattle.vic_result.specs.NamesAt.{names_at};
+ghost use Rattle.std.specs.Prelude.{◌≡◌, IfOk};
+ghost use Rattle.vic_collection.specs.Findings.{AreFindings};
+ghost use Rattle.vic_result.specs.Answered.{IsAnswerStatus, answer_line};
+ghost use Rattle.vic_result.specs.ResultLines.{AreFindingLines, AreLinesBy, AreCollectionLines, ended};
 
-use crate::head::push_row_of_uid;
-use crate::names::push_uid_cells;
-use crate::states::state_name;
+mod first_logs;
+mod log_lines;
+mod uid_lines;
+
+use crate::answered::{ResultText, answer_status, push_answer_line};
+use crate::lines::log_lines::{push_left_over, push_unsettled, push_without_log};
+use crate::lines::uid_lines::{
+    push_absent, push_doubtful, push_misplaced, push_not_counted, push_returned, push_unlisted,
+};
 use std::alloc::{AllocError, Global};
-use vic_collection::State;
-use vic_frame::Uid;
-use vic_survey::Survey;
-use vic_table::Catalogue;
+use vic_collection::{Collection, CollectionAnswer, Findings};
 
-/// In which logs a UID is: the positions of those in which it is certain, and of those in which it
-/// is possible and not certain.
-#[derive(Clone, Copy)]
-pub(crate) struct In<'a> {
-    pub(crate) certain: &'a [usize],
-    pub(crate) possible: &'a [usize],
+/// The line of an answer.
+fn answer_text(
+    alloc: Global,
+    collection: &Collection,
+    answer: &CollectionAnswer<'_>,
+) -> Result<Vec<u8>, AllocError>
+    ensures { IfOk result (λ text. text.items ≡ ended (answer_line collection.now answer.now)) }
+{
+    let mut text = Vec::new(alloc);
+    push_answer_line(&mut text, collection, answer)?;
+    text.extend_from_slice(b"\n")?;
+    Ok(text)
 }
 
-/// Appends the line of an item in a state.
-pub(crate) fn push_item(
+/// All findings, in the order of the answer.
+fn findings_text(
     alloc: Global,
-    text: &mut Vec<u8>,
-    catalogue: &Catalogue,
-    surveys: &[Survey],
-    index: usize,
-    state: State,
-    logs: In<'_>,
-) -> Result<(), AllocError>
-    requires { index < length catalogue.now.items }
-    ensures { OnOk result (IsSomeAnd (slice_get catalogue.now.items index) (λ item.
-        text.new.items ≡ text.old.items ++ (item.row
-        ++ cells_text (separator_byte catalogue.now.columns.separator)
-        (state_name state ∷ names_text (names_at surveys.now logs.entry.certain.now)
-        ∷ names_text (names_at surveys.now logs.entry.possible.now) ∷ [])
-        ++ catalogue.now.head_end))) }
+    collection: &Collection,
+    findings: &Findings<'_>,
+) -> Result<Vec<u8>, AllocError>
+    requires { AreFindings collection.now findings.now }
+    ensures { IfOk result (λ text. AreFindingLines collection.now findings.now text.items) }
 {
-    let separator = catalogue.columns().separator.byte();
-    text.extend_from_slice(catalogue.row(index))?;
-    let state = state_name(state);
-    push_uid_cells(
-        alloc,
-        text,
-        separator,
-        state,
-        surveys,
-        logs.certain,
-        logs.possible,
-    )?;
-    text.extend_from_slice(catalogue.head_end())
+    let mut text = Vec::new(alloc);
+    push_absent(&mut text, &findings.absent)?;
+    push_unlisted(&mut text, collection, &findings.unlisted)?;
+    push_unsettled(alloc, &mut text, collection, &findings.unsettled)?;
+    push_doubtful(alloc, &mut text, collection, &findings.doubtful)?;
+    push_misplaced(&mut text, collection, &findings.misplaced)?;
+    push_returned(&mut text, collection, &findings.returned)?;
+    push_not_counted(&mut text, collection, &findings.not_counted)?;
+    push_without_log(&mut text, &findings.without_log)?;
+    push_left_over(&mut text, collection.surveys(), &findings.left_over)?;
+    Ok(text)
 }
 
-/// Appends the line of a UID of no item.
-pub(crate) fn push_unexpected(
+/// The line of an answer where a log isn't possible or nothing is found, and else all findings.
+fn text_by(
     alloc: Global,
-    text: &mut Vec<u8>,
-    catalogue: &Catalogue,
-    surveys: &[Survey],
-    uid: Uid,
-    logs: In<'_>,
-) -> Result<(), AllocError>
-    ensures { OnOk result (text.new.items ≡ text.old.items ++ (row_of_uid catalogue.now.columns uid
-        ++ cells_text (separator_byte catalogue.now.columns.separator)
-        (codes "unexpected" ∷ names_text (names_at surveys.now logs.entry.certain.now)
-        ∷ names_text (names_at surveys.now logs.entry.possible.now) ∷ [])
-        ++ catalogue.now.head_end)) }
+    collection: &Collection,
+    findings: &Findings<'_>,
+    answer: &CollectionAnswer<'_>,
+) -> Result<Vec<u8>, AllocError>
+    requires { AreFindings collection.now findings.now }
+    ensures { IfOk result (λ text.
+        AreLinesBy collection.now findings.now answer.now text.items) }
 {
-    let columns = catalogue.columns();
-    let separator = columns.separator.byte();
-    push_row_of_uid(text, columns, uid)?;
-    let state = b"unexpected";
-    push_uid_cells(
-        alloc,
-        text,
-        separator,
-        state,
-        surveys,
-        logs.certain,
-        logs.possible,
-    )?;
-    text.extend_from_slice(catalogue.head_end())
+    match answer {
+        CollectionAnswer::NotPossible { .. } | CollectionAnswer::Complete { .. } => {
+            answer_text(alloc, collection, answer)
+        }
+        _ => findings_text(alloc, collection, findings),
+    }
+}
+
+/// The lines of a collection: all its findings in the order of its answer, each kind whole; where a
+/// log isn't possible or nothing is found, the line of the answer alone. Each line ends by LF.
+pub fn lines_text(alloc: Global, collection: &Collection) -> Result<ResultText, AllocError>
+    ensures text { IfOk result (λ r. AreCollectionLines collection.now r.text.items) }
+    ensures status { IfOk result (λ r. IsAnswerStatus collection.now r.status) }
+{
+    let findings = collection.findings(alloc)?;
+    let answer = findings.answer();
+    let text = text_by(alloc, collection, &findings, &answer)?;
+    let status = answer_status(collection, &answer);
+    Ok(ResultText { text, status })
 }

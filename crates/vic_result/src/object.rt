@@ -3,18 +3,29 @@
 ghost use Rattle.std.specs.Prelude.{◌≡◌, ◌++◌, true, OnOk, IfOk, map};
 ghost use Rattle.std.specs.List.{All};
 ghost use Rattle.vic_text.specs.Json.{comma_joined};
-ghost use Rattle.vic_collection.specs.Collections.{is_unexpected};
-ghost use Rattle.vic_result.specs.ResultObject.{IsObjectOf, extra_of, extras_json, margin_found, margin_member};
+ghost use Rattle.vic_collection.specs.Collections.{is_unlisted};
+ghost use Rattle.vic_result.specs.Answered.{IsAnswerStatus};
+ghost use Rattle.vic_result.specs.ResultObject.{IsCollectionObject, unlisted_json, unlisted_list_json, margin_found, margin_member};
 ghost use Rattle.vic_result.specs.inner.ItemLogs.{ArePossibleLogs};
 
-use crate::answered::{answer_status, push_answer_line};
-use crate::lists::{push_comma, push_extra};
-use crate::margins::{LogMargin, least_margin};
-use crate::members::{
-    push_all_items, push_all_logs, push_answer, push_catalogue, push_lacking, push_margin,
+mod counts;
+mod item_list;
+mod items;
+mod log_list;
+mod logs;
+mod margins;
+mod members;
+mod values;
+
+use crate::answered::{ResultText, answer_status, push_answer_line};
+use crate::object::item_list::{push_comma, push_unlisted_uid};
+pub use crate::object::margins::LogMargin;
+use crate::object::margins::least_margin;
+use crate::object::members::{
+    push_answer, push_catalogue, push_items_member, push_lacking, push_logs_member, push_margin,
 };
 use std::alloc::{AllocError, Global};
-use vic_collection::{Collection, CollectionAnswer, PossibleLogs, UnlistedUid};
+use vic_collection::{Collection, CollectionAnswer, LogsByUid, UnlistedUid};
 use vic_table::LineCells;
 
 /// Appends the least margin of the logs, if a collection is complete and has logs.
@@ -27,13 +38,16 @@ fn push_margin_member(
         ≡ text.old.items ++ margin_member collection.now answer.now) }
 {
     match answer {
-        CollectionAnswer::Complete { .. } => push_found(text, least_margin(collection.surveys())),
+        CollectionAnswer::Complete { .. } => push_found_margin(
+            text,
+            least_margin(collection.surveys()),
+        ),
         _ => Ok(()),
     }
 }
 
 /// Appends a margin, if there is one.
-fn push_found(text: &mut Vec<u8>, found: Option<LogMargin>) -> Result<(), AllocError>
+fn push_found_margin(text: &mut Vec<u8>, found: Option<LogMargin>) -> Result<(), AllocError>
     ensures { OnOk result (text.new.items ≡ text.old.items ++ margin_found found) }
 {
     match found {
@@ -43,65 +57,63 @@ fn push_found(text: &mut Vec<u8>, found: Option<LogMargin>) -> Result<(), AllocE
 }
 
 /// Appends UIDs of no item, with a comma between any two.
-fn push_extras(
+fn push_unlisted_list(
     text: &mut Vec<u8>,
     collection: &Collection,
-    possible: &PossibleLogs,
-    extras: &[UnlistedUid],
+    possible: &LogsByUid,
+    unlisted: &[UnlistedUid],
 ) -> Result<(), AllocError>
     requires possible { ArePossibleLogs collection.now possible.now }
-    requires unexpected { All (λ x. is_unexpected collection.now x.uid ≡ true) extras.now }
+    requires unlisted { All (λ x. is_unlisted collection.now x.uid ≡ true) unlisted.now }
     ensures { OnOk result (text.new.items ≡ text.old.items
-        ++ comma_joined (map (extra_of collection.now) extras.now)) }
+        ++ comma_joined (map (unlisted_json collection.now) unlisted.now)) }
 {
-    for (index, extra) in extras.iter().enumerate() {
+    for (index, one) in unlisted.iter().enumerate() {
         push_comma(text, index)?;
-        push_extra(text, collection, possible, extra.uid, extra.line)?;
+        push_unlisted_uid(text, collection, possible, one.uid, one.line)?;
     }
     Ok(())
 }
 
 /// Appends all UIDs of no item.
-fn push_all_extras(
+fn push_unlisted_member(
     text: &mut Vec<u8>,
     collection: &Collection,
-    possible: &PossibleLogs,
-    extras: &[UnlistedUid],
+    possible: &LogsByUid,
+    unlisted: &[UnlistedUid],
 ) -> Result<(), AllocError>
     requires possible { ArePossibleLogs collection.now possible.now }
-    requires unexpected { All (λ x. is_unexpected collection.now x.uid ≡ true) extras.now }
+    requires unlisted { All (λ x. is_unlisted collection.now x.uid ≡ true) unlisted.now }
     ensures { OnOk result
-        (text.new.items ≡ text.old.items ++ extras_json collection.now extras.now) }
+        (text.new.items ≡ text.old.items ++ unlisted_list_json collection.now unlisted.now) }
 {
     text.extend_from_slice(b",\"unexpected\":[")?;
-    push_extras(text, collection, possible, extras)?;
+    push_unlisted_list(text, collection, possible, unlisted)?;
     text.extend_from_slice(b"]")
 }
 
 /// The object of a collection.
-pub fn object_text(alloc: Global, collection: &Collection) -> Result<Vec<u8>, AllocError>
-    ensures { IfOk result (λ text. IsObjectOf collection.now text.items) }
+pub fn object_text(alloc: Global, collection: &Collection) -> Result<ResultText, AllocError>
+    ensures text { IfOk result (λ r. IsCollectionObject collection.now r.text.items) }
+    ensures status { IfOk result (λ r. IsAnswerStatus collection.now r.status) }
 {
     let findings = collection.findings(alloc)?;
     let answer = findings.answer();
-    let possible = PossibleLogs::of(alloc, collection)?;
-    let states = collection.states(alloc)?;
+    let possible = collection.possible_logs(alloc)?;
+    let states = findings.states.as_slice();
     let masks = collection.open_masks(alloc)?;
+    let status = answer_status(collection, &answer);
     let mut line = Vec::new(alloc);
     push_answer_line(&mut line, collection, &answer)?;
     let mut cells = LineCells::new(alloc);
     let mut text = Vec::new(alloc);
-    push_answer(
-        &mut text,
-        answer_status(collection, &answer),
-        line.as_slice(),
-    )?;
+    push_answer(&mut text, status, line.as_slice())?;
     push_margin_member(&mut text, collection, &answer)?;
-    let extras = findings.unlisted.as_slice();
-    push_catalogue(&mut text, collection, &states, &mut cells, extras.len())?;
-    push_all_items(&mut text, collection, &possible, &mut cells)?;
-    push_all_extras(&mut text, collection, &possible, extras)?;
+    let unlisted = findings.unlisted.as_slice();
+    push_catalogue(&mut text, collection, states, &mut cells, unlisted.len())?;
+    push_items_member(&mut text, collection, &possible, states, &mut cells)?;
+    push_unlisted_member(&mut text, collection, &possible, unlisted)?;
     push_lacking(&mut text, &findings.unsettled, &findings.without_log)?;
-    push_all_logs(alloc, &mut text, collection, &masks)?;
-    Ok(text)
+    push_logs_member(alloc, &mut text, collection, &masks)?;
+    Ok(ResultText { text, status })
 }

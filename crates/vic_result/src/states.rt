@@ -1,6 +1,6 @@
-//! What states are called.
+//! What states are called, and the state at a position.
 
-ghost use Rattle.std.specs.Prelude.{◌≡◌};
+ghost use Rattle.std.specs.Prelude.{◌≡◌, ◌<◌, Some, length, slice_get};
 ghost use Rattle.vic_result.specs.StateNames.{state_name};
 
 use vic_collection::State;
@@ -15,9 +15,17 @@ pub fn state_name(state: State) -> &'static [u8]
         State::InPlace => b"in place",
         State::Misplaced => b"misplaced",
         State::There => b"there",
-        State::NotProvable => b"not provable",
+        State::Doubtful => b"not provable",
         State::Away => b"away",
         State::NotCounted => b"not counted",
-        State::Missing => b"missing",
+        State::Absent => b"missing",
     }
+}
+
+/// The state of the item at a position, among those of all items.
+pub(crate) fn state_at(states: &[State], index: usize) -> State
+    requires { index < length states.now }
+    ensures { slice_get states.now index ≡ Some result }
+{
+    states[index]
 }

@@ -1,162 +1,145 @@
 //! The table of a collection.
 
 ghost use Rattle.std.specs.Prelude.{◌≡◌, ◌<◌, ◌++◌, true, OnOk, IfOk, IsSomeAnd, length, map, slice_get};
-ghost use Rattle.std.specs.List.{flat_map};
-ghost use Rattle.vic_verdict.specs.Rising.{IsListOf};
-ghost use Rattle.vic_collection.specs.Collections.{certain_logs, is_named, is_unexpected, possible_logs};
-ghost use Rattle.vic_result.specs.ResultTable.{IsTableOf, item_line, logs_by, table_text as text_with, unexpected_line};
+ghost use Rattle.std.specs.List.{All, flat_map};
+ghost use Rattle.vic_collection.specs.Collections.{is_unlisted};
+ghost use Rattle.vic_collection.specs.States.{state_of};
+ghost use Rattle.vic_result.specs.Answered.{IsAnswerStatus};
+ghost use Rattle.vic_result.specs.ResultTable.{IsCollectionTable, item_row, table_text as text_with, unlisted_row};
 ghost use Rattle.vic_result.specs.inner.ItemLogs.{ArePossibleLogs};
 
-use crate::head::{push_head, push_mark};
-use crate::lines::{In, push_item, push_unexpected};
+mod cells;
+mod head;
+mod rows;
+mod uid_cells;
+
+use crate::answered::{ResultText, status_by};
+use crate::states::state_at;
+use crate::table::head::{push_head_line, push_mark};
+use crate::table::rows::{push_item_row, push_unlisted_row};
+use crate::uid_logs::{logs_of_item, logs_of_uid};
 use std::alloc::{AllocError, Global};
-use vic_collection::{Collection, PossibleLogs};
+use vic_collection::{Collection, LogsByUid, State, UnlistedUid};
 use vic_frame::Uid;
 
 /// The table of a collection: each row of its catalogue as it stands, with the state of the item
-/// and the logs in which it is and may be, and a row for each UID that is unexpected.
-pub fn table_text(alloc: Global, collection: &Collection) -> Result<Vec<u8>, AllocError>
-    ensures { IfOk result (λ text. IsTableOf collection.now text.items) }
+/// and the logs in which it is and may be, and a row for each UID that is certain in some log and
+/// of no item.
+pub fn table_text(alloc: Global, collection: &Collection) -> Result<ResultText, AllocError>
+    ensures text { IfOk result (λ r. IsCollectionTable collection.now r.text.items) }
+    ensures status { IfOk result (λ r. IsAnswerStatus collection.now r.status) }
 {
-    let possible = PossibleLogs::of(alloc, collection)?;
-    let unexpected = collection.unexpected(alloc)?;
-    table_with(alloc, collection, &possible, &unexpected)
+    let findings = collection.findings(alloc)?;
+    let possible = collection.possible_logs(alloc)?;
+    let states = findings.states.as_slice();
+    let unlisted = findings.unlisted.as_slice();
+    let text = table_with(alloc, collection, &possible, states, unlisted)?;
+    let status = status_by(collection, &findings);
+    Ok(ResultText { text, status })
 }
 
-/// In which logs a UID is.
-pub(crate) fn logs_of_uid<'a>(
-    collection: &'a Collection,
-    possible: &'a PossibleLogs,
-    uid: Uid,
-) -> In<'a>
-    requires possible { ArePossibleLogs collection.now possible.now }
-    requires named { is_named collection.now uid ≡ true }
-    ensures certain { result.certain.now ≡ certain_logs collection.now uid }
-    ensures possible { result.possible.now ≡ possible_logs collection.now uid }
-{
-    In {
-        certain: collection.certain_in(uid),
-        possible: possible.logs_of(uid),
-    }
-}
-
-/// In which logs the UID of an item is.
-pub(crate) fn logs_of_item<'a>(
-    collection: &'a Collection,
-    possible: &'a PossibleLogs,
-    index: usize,
-) -> In<'a>
-    requires bound { index < length collection.now.catalogue.items }
-    requires possible { ArePossibleLogs collection.now possible.now }
-    ensures certain { IsSomeAnd (slice_get collection.now.catalogue.items index) (λ item.
-        result.certain.now ≡ logs_by (certain_logs collection.now) item.uid) }
-    ensures possible { IsSomeAnd (slice_get collection.now.catalogue.items index) (λ item.
-        result.possible.now ≡ logs_by (possible_logs collection.now) item.uid) }
-{
-    match collection.catalogue().uid(index) {
-        Some(uid) => logs_of_uid(collection, possible, uid),
-        None => In {
-            certain: &[],
-            possible: &[],
-        },
-    }
-}
-
-/// Appends the line of an item.
-fn push_line(
+/// Appends the row of the item at a position.
+fn push_row_at(
     alloc: Global,
     text: &mut Vec<u8>,
     collection: &Collection,
-    possible: &PossibleLogs,
+    possible: &LogsByUid,
+    states: &[State],
     index: usize,
 ) -> Result<(), AllocError>
     requires bound { index < length collection.now.catalogue.items }
     requires possible { ArePossibleLogs collection.now possible.now }
+    requires states { states.now ≡ map (state_of collection.now) collection.now.catalogue.items }
     ensures { OnOk result (IsSomeAnd (slice_get collection.now.catalogue.items index) (λ item.
         text.new.items ≡ text.old.items
-        ++ (item_line collection.now item ++ collection.now.catalogue.head_end))) }
+        ++ (item_row collection.now item ++ collection.now.catalogue.head_end))) }
 {
     let catalogue = collection.catalogue();
     let surveys = collection.surveys();
-    let state = collection.state(index);
+    let state = state_at(states, index);
     let logs = logs_of_item(collection, possible, index);
-    push_item(alloc, text, catalogue, surveys, index, state, logs)?;
+    push_item_row(alloc, text, catalogue, surveys, index, state, logs)?;
     Ok(())
 }
 
-/// Appends the lines of all items.
-fn push_lines(
+/// Appends the rows of all items.
+fn push_item_rows(
     alloc: Global,
     text: &mut Vec<u8>,
     collection: &Collection,
-    possible: &PossibleLogs,
+    possible: &LogsByUid,
+    states: &[State],
 ) -> Result<(), AllocError>
-    requires { ArePossibleLogs collection.now possible.now }
+    requires possible { ArePossibleLogs collection.now possible.now }
+    requires states { states.now ≡ map (state_of collection.now) collection.now.catalogue.items }
     ensures { OnOk result (text.new.items ≡ text.old.items
         ++ flat_map (λ line. line ++ collection.now.catalogue.head_end)
-        (map (item_line collection.now) collection.now.catalogue.items)) }
+        (map (item_row collection.now) collection.now.catalogue.items)) }
 {
     for index in 0..collection.catalogue().len() {
-        push_line(alloc, text, collection, possible, index)?;
+        push_row_at(alloc, text, collection, possible, states, index)?;
     }
     Ok(())
 }
 
-/// Appends the line of a UID that is unexpected.
-fn push_extra_line(
+/// Appends the row of a UID of no item.
+fn push_row_of_unlisted(
     alloc: Global,
     text: &mut Vec<u8>,
     collection: &Collection,
-    possible: &PossibleLogs,
+    possible: &LogsByUid,
     uid: Uid,
 ) -> Result<(), AllocError>
     requires possible { ArePossibleLogs collection.now possible.now }
-    requires unexpected { is_unexpected collection.now uid ≡ true }
+    requires unlisted { is_unlisted collection.now uid ≡ true }
     ensures { OnOk result (text.new.items ≡ text.old.items
-        ++ (unexpected_line collection.now uid ++ collection.now.catalogue.head_end)) }
+        ++ (unlisted_row collection.now uid ++ collection.now.catalogue.head_end)) }
 {
     let catalogue = collection.catalogue();
     let surveys = collection.surveys();
     let logs = logs_of_uid(collection, possible, uid);
-    push_unexpected(alloc, text, catalogue, surveys, uid, logs)?;
+    push_unlisted_row(alloc, text, catalogue, surveys, uid, logs)?;
     Ok(())
 }
 
-/// Appends the lines of UIDs that are unexpected.
-fn push_extra_lines(
+/// Appends the rows of UIDs of no item.
+fn push_unlisted_rows(
     alloc: Global,
     text: &mut Vec<u8>,
     collection: &Collection,
-    possible: &PossibleLogs,
-    uids: &[Uid],
+    possible: &LogsByUid,
+    unlisted: &[UnlistedUid],
 ) -> Result<(), AllocError>
     requires possible { ArePossibleLogs collection.now possible.now }
-    requires unexpected { IsListOf (λ u. is_unexpected collection.now u ≡ true) uids.now }
+    requires unlisted { All (λ x. is_unlisted collection.now x.uid ≡ true) unlisted.now }
     ensures { OnOk result (text.new.items ≡ text.old.items
         ++ flat_map (λ line. line ++ collection.now.catalogue.head_end)
-        (map (unexpected_line collection.now) uids.now)) }
+        (map (unlisted_row collection.now) (map (λ x. x.uid) unlisted.now))) }
 {
-    for uid in uids {
-        push_extra_line(alloc, text, collection, possible, *uid)?;
+    for one in unlisted {
+        push_row_of_unlisted(alloc, text, collection, possible, one.uid)?;
     }
     Ok(())
 }
 
-/// The text of the table, where some UIDs are unexpected.
+/// The text of the table, where these UIDs are of no item.
 fn table_with(
     alloc: Global,
     collection: &Collection,
-    possible: &PossibleLogs,
-    uids: &[Uid],
+    possible: &LogsByUid,
+    states: &[State],
+    unlisted: &[UnlistedUid],
 ) -> Result<Vec<u8>, AllocError>
     requires possible { ArePossibleLogs collection.now possible.now }
-    requires unexpected { IsListOf (λ u. is_unexpected collection.now u ≡ true) uids.now }
-    ensures { IfOk result (λ text. text.items ≡ text_with collection.now uids.now) }
+    requires states { states.now ≡ map (state_of collection.now) collection.now.catalogue.items }
+    requires unlisted { All (λ x. is_unlisted collection.now x.uid ≡ true) unlisted.now }
+    ensures { IfOk result (λ text.
+        text.items ≡ text_with collection.now (map (λ x. x.uid) unlisted.now)) }
 {
     let mut text = Vec::new(alloc);
     push_mark(&mut text, collection.catalogue())?;
-    push_head(&mut text, collection.catalogue())?;
-    push_lines(alloc, &mut text, collection, possible)?;
-    push_extra_lines(alloc, &mut text, collection, possible, uids)?;
+    push_head_line(&mut text, collection.catalogue())?;
+    push_item_rows(alloc, &mut text, collection, possible, states)?;
+    push_unlisted_rows(alloc, &mut text, collection, possible, unlisted)?;
     Ok(text)
 }

@@ -1,7 +1,6 @@
 mod Words
 pub mod Bits
 pub mod WidestLaws
-pub mod Places
 pub mod LowBits
 pub mod CutLaws
 pub mod CellLaws

@@ -1,20 +1,16 @@
 -- What a node says depends on the low bits alone.
-use Rattle.vic_sets.proofs.Words.{◌≡◌, ℕ, ◌+◌, ◌-◌, ◌*◌, ◌/◌, ◌^◌, ◌%◌, ◌<◌, ◌≤◌, refl, sym, ap, ◌∙◌, arith, true, shr-shr, eqb-true, eq-eqb, mod_below, BitMask, mod_mod_pow, Node, Fork', Clear, Shut, open_at, height, IsWidest, IsWidestOf, AllOpen}
+use Rattle.vic_sets.proofs.Words.{◌≡◌, ℕ, ◌+◌, ◌-◌, ◌*◌, ◌/◌, ◌^◌, ◌%◌, ◌<◌, ◌≤◌, refl, sym, ap, ◌∙◌, arith, true, eqb-true, eq-eqb, mod_below, BitMask, mod_mod_pow, Node, Fork', Clear, Shut, open_at, height, IsWidest, IsWidestOf, AllOpen}
 use Rattle.vic_sets.proofs.Bits.{low_and_rest}
 
 -- the lowest bit and the rest of the low bits
-pub halved : (u len v : ℕ) → 0 < len → u % 2 ^ len ≡ v → (u % 2 ≡ v % 2) × (u / 2 % 2 ^ (len - 1) ≡ v / 2)
+halved : (u len v : ℕ) → 0 < len → u % 2 ^ len ≡ v → (u % 2 ≡ v % 2) × (u / 2 % 2 ^ (len - 1) ≡ v / 2)
 halved u len v pos h =
     let e : len - 1 + 1 ≡ len = omega arith in
     let parts = rw e at (low_and_rest u (len - 1)) in
     let b = mod_below u 2 (omega arith) in
     (omega arith, omega arith)
 
--- further down is further along
-pub down : (u len : ℕ) → 0 < len → u / 2 ^ len ≡ u / 2 / 2 ^ (len - 1)
-down u len pos = let e : 1 + (len - 1) ≡ len = omega arith in let f : u / 2 ^ 1 / 2 ^ (len - 1) ≡ u / 2 ^ (1 + (len - 1)) = shr-shr u 1 (len - 1) in sym (rw e at f)
-
-pub open_at_low : (n : Node) (k u v : ℕ) → height n ≤ k → u % 2 ^ k ≡ v % 2 ^ k → open_at n u ≡ open_at n v
+open_at_low : (n : Node) (k u v : ℕ) → height n ≤ k → u % 2 ^ k ≡ v % 2 ^ k → open_at n u ≡ open_at n v
 open_at_low Clear k u v h e = refl
 open_at_low Shut k u v h e = refl
 open_at_low (Fork' p l r) k u v h e =

@@ -1,3 +1,2 @@
 -- Definitions that private contracts alone cite.
 pub mod Widest
-pub mod Free

@@ -82,15 +82,4 @@ impl Cell {
         let mask = Mask::of_bits(len, self.mask.value() % (1 << len));
         Cell { mask }
     }
-
-    /// Its upper half, where the next bit is 1, if `bit`; otherwise its lower half.
-    pub(crate) fn half(&self, bit: bool) -> Cell
-        requires { self.now.len < UID_BITS }
-        ensures value { result ≡ (if bit then upper_half self.now else lower_half self.now) }
-        ensures cell { IsCell self.now }
-    {
-        let value = self.mask.value() + (u64::from(bit) << self.len());
-        let mask = Mask::of_bits(self.len() + 1, value);
-        Cell { mask }
-    }
 }

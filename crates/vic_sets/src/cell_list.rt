@@ -3,8 +3,7 @@
 ghost use Rattle.vic_sets.specs.Cells.{in_cells};
 
 use crate::cell::Cell;
-use crate::cells::{Cells, gather_cells, is_in, settled};
-use arrayvec::ArrayVec;
+use crate::cells::{Cells, is_in, settled};
 use std::alloc::{AllocError, Global};
 use std::marker::Model;
 use std::mem;
@@ -56,14 +55,6 @@ impl OpenSet for CellList {
 
     fn has(&self, uid: Uid) -> bool {
         is_in(&self.cells, uid)
-    }
-
-    fn up_to_three(&self, mask: &Mask, except: &[Uid]) -> ArrayVec<Uid, 3> {
-        let mut out = ArrayVec::new();
-        if let Some(mask) = without_top_byte(mask) {
-            gather_cells(&mut out, except, &self.cells, &Cell { mask });
-        }
-        out
     }
 
     fn widest(&self) -> Option<Mask> {

@@ -4,13 +4,9 @@ ghost use Rattle.std.specs.Prelude.{◌≡◌, ◌&&◌, ◌||◌, not, IfOk, On
 ghost use Rattle.vic_frame.specs.Uids.{has};
 ghost use Rattle.vic_frame.specs.Masks.{lies_in};
 ghost use Rattle.vic_tree.specs.OpenSet.{SameUids, settled};
-ghost use Rattle.vic_tree.specs.Gathering.{Gathers};
-ghost use Rattle.vic_sets.specs.inner.Free.{IsFreeIn};
 ghost use Rattle.vic_sets.specs.Cells.{in_cells, IsApart};
 
 use crate::cell::Cell;
-use crate::gather::gather_all;
-use arrayvec::ArrayVec;
 use std::alloc::{AllocError, Global};
 use std::marker::Model;
 use vic_frame::{Mask, Uid};
@@ -115,16 +111,4 @@ fn add(cells: &mut Cells, cell: Cell) -> Result<(), AllocError>
     }
     cells.list.push(cell)?;
     Ok(())
-}
-
-/// Appends the UIDs that lie in a mask and in one of the cells, and aren't exceptions.
-pub(crate) fn gather_cells(out: &mut ArrayVec<Uid, 3>, except: &[Uid], cells: &Cells, mask: &Cell)
-    ensures { Gathers (IsFreeIn (in_cells cells.now) mask.now except.now)
-        out.old.items out.new.items }
-{
-    for cell in &cells.list {
-        if let Some(both) = cell.shared(mask) {
-            gather_all(out, except, &both);
-        }
-    }
 }

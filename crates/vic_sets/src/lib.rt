@@ -5,7 +5,6 @@
 mod cell;
 mod cell_list;
 mod cells;
-mod gather;
 mod mask_tree;
 mod node;
 mod node_queries;

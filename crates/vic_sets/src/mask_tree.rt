@@ -4,10 +4,8 @@ ghost use Rattle.std.specs.Prelude.{◌≡◌, ◌&&◌, IfOk, filter};
 ghost use Rattle.vic_frame.specs.Masks.{lies_in};
 ghost use Rattle.vic_sets.specs.Nodes.{open_at};
 
-use crate::cell::Cell;
-use crate::node::{Node, below, fill, is_open_at};
-use crate::node_queries::{gather_open, widest_below};
-use arrayvec::ArrayVec;
+use crate::node::{Node, fill, is_open_at};
+use crate::node_queries::widest_below;
 use std::alloc::{AllocError, Global};
 use std::marker::Model;
 use std::mem;
@@ -67,15 +65,6 @@ impl OpenSet for MaskTree {
 
     fn has(&self, uid: Uid) -> bool {
         is_open_at(&self.root, uid.number())
-    }
-
-    fn up_to_three(&self, mask: &Mask, except: &[Uid]) -> ArrayVec<Uid, 3> {
-        let mut found = ArrayVec::new();
-        if let Some(mask) = without_top_byte(mask) {
-            let node = below(&self.root, mask.len(), mask.value());
-            gather_open(&mut found, except, node, &Cell { mask });
-        }
-        found
     }
 
     fn widest(&self) -> Option<Mask> {

@@ -118,22 +118,3 @@ pub(crate) fn fill(
     merge(node);
     Ok(())
 }
-
-/// The node below which the numbers whose low `len` bits are `value` are looked up, or the leaf
-/// that decides on all of them.
-pub(crate) fn below(node: &Node, len: u8, value: u64) -> &Node
-    ensures same { (u : ℕ) → u % 2 ^ len ≡ value
-        → open_at result.now (u / 2 ^ len) ≡ open_at node.now u }
-    ensures height { height result.now + len ≤ max (height node.now) len }
-{
-    match node {
-        Node::Fork(halves) if len > 0 => {
-            if value % 2 == 0 {
-                below(&halves.zero, len - 1, value / 2)
-            } else {
-                below(&halves.one, len - 1, value / 2)
-            }
-        }
-        _ => node,
-    }
-}

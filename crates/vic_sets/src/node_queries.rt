@@ -1,34 +1,11 @@
-//! Queries on a tree of bits: at most three UIDs that are open below a node, and the widest mask.
+//! The widest mask of a tree of bits.
 
-ghost use Rattle.std.specs.Prelude.{◌≡◌, ℕ, ◌+◌, ◌<◌, ◌≤◌, false, IfSome, IfNone, if◌then◌else◌};
+ghost use Rattle.std.specs.Prelude.{◌≡◌, ℕ, ◌<◌, ◌≤◌, false, IfSome, IfNone, if◌then◌else◌};
 ghost use Rattle.vic_sets.specs.Nodes.{open_at, height, IsReduced};
-ghost use Rattle.vic_tree.specs.Gathering.{Gathers};
-ghost use Rattle.vic_sets.specs.inner.Free.{IsFreeUnder};
 ghost use Rattle.vic_sets.specs.inner.Widest.{IsWidestOf, with_low_bit};
 
-use crate::cell::Cell;
-use crate::gather::gather_all;
 use crate::node::Node;
-use arrayvec::ArrayVec;
-use vic_frame::{Mask, UID_BITS, Uid};
-
-/// Appends the UIDs of a mask that are open below the node to which its bits lead, and aren't
-/// exceptions.
-pub(crate) fn gather_open(out: &mut ArrayVec<Uid, 3>, except: &[Uid], node: &Node, cell: &Cell)
-    requires { cell.now.len + height node.now ≤ UID_BITS }
-    ensures { Gathers (IsFreeUnder node.now cell.now except.now) out.old.items out.new.items }
-{
-    match node {
-        Node::Clear => gather_all(out, except, cell),
-        Node::Shut => {}
-        Node::Fork(halves) => {
-            gather_open(out, except, &halves.zero, &cell.half(false));
-            if !out.is_full() {
-                gather_open(out, except, &halves.one, &cell.half(true));
-            }
-        }
-    }
-}
+use vic_frame::{Mask, UID_BITS};
 
 /// The mask that fixes one more bit, below the others.
 fn lengthened(mask: &Mask, bit: bool) -> Mask

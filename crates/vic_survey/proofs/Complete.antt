@@ -1,5 +1,5 @@
 -- The lines of surveys are read, and those that were read so far can be completed.
-use Rattle.vic_survey.proofs.RunWords.{AllByRecursion, List, None, Option, Some, [], ap, arith, append_assoc, append-nil, map, flat_map, refl, sym, ℕ, ◌++◌, ◌∙◌, ◌∷◌, ◌≡◌, codes, decimal, BitMask, ShownUid, mask_text, found_text, certain_line, bytes_eq-Decides, IsField, IsName, Field, Refused, Impossible, Possible, joined, SurveyValue, Seen, open_line, seen_lines, field_lines, lines_before, seal, survey_lines, name_line, BeginsSome, AreSurveys, All-push, IsSeen, IsSurvey, AreCertain, AreOpen, Begun, Named, UpTo, Unsealed, Part, State, run, lists_of, lines_of, so_far, IsBegun, IsState}
+use Rattle.vic_survey.proofs.RunWords.{AllByRecursion, List, None, Option, Some, [], ap, arith, append_assoc, append-nil, map, flat_map, refl, sym, ℕ, ◌++◌, ◌∙◌, ◌∷◌, ◌≡◌, codes, decimal, BitMask, ShownUid, mask_text, found_text, certain_line, bytes_eq-Decides, IsFieldInRange, IsName, SurveyedField, Refused, Impossible, Possible, joined, SurveyValue, FieldFacts, open_line, facts_lines, field_lines, lines_before, seal, survey_lines, name_line, BeginsSome, AreSurveys, All-push, AreFactsInRange, IsSurvey, AreRisingUids, AreRisingMasks, Begun, Named, UpTo, Unsealed, Part, State, run, lists_of, lines_of, so_far, IsBegun, IsState}
 use Rattle.vic_survey.specs.declared.begun.Part.TheVariants as part
 use Rattle.vic_survey.proofs.Joined.{joined-append}
 use Rattle.vic_survey.proofs.Spelled.{number_found}
@@ -9,35 +9,35 @@ use Rattle.vic_survey.proofs.RisingLaws.{certain_next, certain_at, open_next, op
 use Rattle.vic_survey.proofs.Runs.{flat_push}
 
 -- what a possible log says, with nothing behind its lists
-seen : ℕ → List ShownUid → List BitMask → Seen
-seen a us ms = record { answers = a; certain = us; «open» = ms; margin = 0; weakest = record { len = 0; value = 0 }; hidden = None; deaf = None }
+facts : ℕ → List ShownUid → List BitMask → FieldFacts
+facts a us ms = record { answers = a; certain = us; «open» = ms; margin = 0; weakest = record { len = 0; value = 0 }; hidden = None; deaf = None }
 
-up_to : List SurveyValue → List ℕ → Seen → State
+up_to : List SurveyValue → List ℕ → FieldFacts → State
 up_to done name s = record { done = done; begun = Some (UpTo name s part.Lists) }
 
 -- certain UIDs, one behind the other
-certain_run : (done : List SurveyValue) (name : List ℕ) (a : ℕ) (us vs : List ShownUid) (rest : List (List ℕ)) → AreCertain (us ++ vs)
-    → run (up_to done name (seen a us [])) (map certain_line vs ++ rest) ≡ run (up_to done name (seen a (us ++ vs) [])) rest
-unfolding seen up_to
-certain_run done name a us [] rest h = ap (λ xs. run (up_to done name (seen a xs [])) rest) (sym (append-nil us))
+certain_run : (done : List SurveyValue) (name : List ℕ) (a : ℕ) (us vs : List ShownUid) (rest : List (List ℕ)) → AreRisingUids (us ++ vs)
+    → run (up_to done name (facts a us [])) (map certain_line vs ++ rest) ≡ run (up_to done name (facts a (us ++ vs) [])) rest
+unfolding facts up_to
+certain_run done name a us [] rest h = ap (λ xs. run (up_to done name (facts a xs [])) rest) (sym (append-nil us))
 certain_run done name a us (v ∷ vs) rest h =
     let above = certain_next us v vs h in
     let uid = certain_at us v vs h in
     let split : (us ++ v ∷ []) ++ vs ≡ us ++ v ∷ vs = append_assoc us (v ∷ []) vs in
     let next = certain_run done name a (us ++ v ∷ []) vs rest (rw split h) in
-    rw (certain_back v uid.0 uid.1, above) (next ∙ ap (λ xs. run (up_to done name (seen a xs [])) rest) split)
+    rw (certain_back v uid.0 uid.1, above) (next ∙ ap (λ xs. run (up_to done name (facts a xs [])) rest) split)
 
 -- open masks, one behind the other
-open_run : (done : List SurveyValue) (name : List ℕ) (a : ℕ) (us : List ShownUid) (ms ns : List BitMask) (rest : List (List ℕ)) → AreOpen (ms ++ ns)
-    → run (up_to done name (seen a us ms)) (map open_line ns ++ rest) ≡ run (up_to done name (seen a us (ms ++ ns))) rest
-unfolding seen up_to
-open_run done name a us ms [] rest h = ap (λ xs. run (up_to done name (seen a us xs)) rest) (sym (append-nil ms))
+open_run : (done : List SurveyValue) (name : List ℕ) (a : ℕ) (us : List ShownUid) (ms ns : List BitMask) (rest : List (List ℕ)) → AreRisingMasks (ms ++ ns)
+    → run (up_to done name (facts a us ms)) (map open_line ns ++ rest) ≡ run (up_to done name (facts a us (ms ++ ns))) rest
+unfolding facts up_to
+open_run done name a us ms [] rest h = ap (λ xs. run (up_to done name (facts a us xs)) rest) (sym (append-nil ms))
 open_run done name a us ms (n ∷ ns) rest h =
     let behind = open_next ms n ns h in
     let short = open_at ms n ns h in
     let split : (ms ++ n ∷ []) ++ ns ≡ ms ++ n ∷ ns = append_assoc ms (n ∷ []) ns in
     let next = open_run done name a us (ms ++ n ∷ []) ns rest (rw split h) in
-    rw (mask_back n short, behind) (next ∙ ap (λ xs. run (up_to done name (seen a us xs)) rest) split)
+    rw (mask_back n short, behind) (next ∙ ap (λ xs. run (up_to done name (facts a us xs)) rest) split)
 
 -- a seal
 sealed : (done : List SurveyValue) (s : SurveyValue) (rest : List (List ℕ))
@@ -45,20 +45,20 @@ sealed : (done : List SurveyValue) (s : SurveyValue) (rest : List (List ℕ))
 sealed done s rest = rw ((bytes_eq-Decides (seal (lines_before s)) (seal (lines_before s))).1 refl) refl
 
 -- what stands behind the lists
-ending_run : (done : List SurveyValue) (name : List ℕ) (s : Seen) (rest : List (List ℕ)) → IsSeen s
-    → run (up_to done name (seen s.answers s.certain s.«open»)) ((codes "margin " ++ decimal s.margin) ∷ (codes "weakest " ++ mask_text s.weakest)
+ending_run : (done : List SurveyValue) (name : List ℕ) (s : FieldFacts) (rest : List (List ℕ)) → AreFactsInRange s
+    → run (up_to done name (facts s.answers s.certain s.«open»)) ((codes "margin " ++ decimal s.margin) ∷ (codes "weakest " ++ mask_text s.weakest)
     ∷ (codes "hidden " ++ found_text s.hidden) ∷ (codes "deaf " ++ found_text s.deaf) ∷ rest)
     ≡ run (record { done = done; begun = Some (Unsealed (record { name = name; field = Possible s })) }) rest
-unfolding seen up_to
+unfolding facts up_to
 ending_run done name s rest h =
     rw (number_found 999999 s.margin (omega (arith, h.margin)) h.margin, mask_back s.weakest h.weakest, found_back s.hidden h.hidden, found_back s.deaf h.deaf) refl
 
 -- what a possible log says
-seen_run : (done : List SurveyValue) (name : List ℕ) (s : Seen) (rest : List (List ℕ)) → IsSeen s
-    → run (record { done = done; begun = Some (Named name) }) (codes "possible" ∷ seen_lines s ++ rest)
+facts_run : (done : List SurveyValue) (name : List ℕ) (s : FieldFacts) (rest : List (List ℕ)) → AreFactsInRange s
+    → run (record { done = done; begun = Some (Named name) }) (codes "possible" ∷ facts_lines s ++ rest)
     ≡ run (record { done = done; begun = Some (Unsealed (record { name = name; field = Possible s })) }) rest
-unfolding seen up_to
-seen_run done name s rest h =
+unfolding facts up_to
+facts_run done name s rest h =
     let ends = (codes "margin " ++ decimal s.margin) ∷ (codes "weakest " ++ mask_text s.weakest) ∷ (codes "hidden " ++ found_text s.hidden) ∷ (codes "deaf " ++ found_text s.deaf) ∷ [] in
     let first = number_found 999999 s.answers (omega (arith, h.answers)) h.answers in
     let cs = map certain_line s.certain in
@@ -68,11 +68,11 @@ seen_run done name s rest h =
     ∙ open_run done name s.answers s.certain [] s.«open» (ends ++ rest) h.masks ∙ ending_run done name s rest h)
 
 -- what a log says
-field_run : (done : List SurveyValue) (name : List ℕ) (f : Field) (rest : List (List ℕ)) → IsField f
+field_run : (done : List SurveyValue) (name : List ℕ) (f : SurveyedField) (rest : List (List ℕ)) → IsFieldInRange f
     → run (record { done = done; begun = Some (Named name) }) (field_lines f ++ rest) ≡ run (record { done = done; begun = Some (Unsealed (record { name = name; field = f })) }) rest
 field_run done name (Refused n f) rest h = rw (refused_back n f h.0 h.1) refl
 field_run done name (Impossible n) rest h = rw (impossible_back n h) refl
-field_run done name (Possible s) rest h = seen_run done name s rest h
+field_run done name (Possible s) rest h = facts_run done name s rest h
 
 -- a survey
 survey_run : (done : List SurveyValue) (s : SurveyValue) (rest : List (List ℕ)) → IsSurvey s
@@ -101,7 +101,7 @@ completed done s front back d v e = (
 part_split : (ls xs ys ends : List (List ℕ)) → (ls ++ (xs ++ ys)) ++ ends ≡ (ls ++ xs) ++ (ys ++ ends)
 part_split ls xs ys ends = append_assoc ls (xs ++ ys) ends ∙ ap (λ zs. ls ++ zs) (append_assoc xs ys ends) ∙ sym (append_assoc ls xs (ys ++ ends))
 
-up_to_completed : (done : List SurveyValue) (name : List ℕ) (s : Seen) (p : Part) → AreSurveys done → IsName name → IsSeen s
+up_to_completed : (done : List SurveyValue) (name : List ℕ) (s : FieldFacts) (p : Part) → AreSurveys done → IsName name → AreFactsInRange s
     → BeginsSome (joined (flat_map survey_lines done ++ lines_of (Some (UpTo name s p))))
 up_to_completed done name s p d n v = by_part p where
   t : SurveyValue
@@ -126,7 +126,7 @@ up_to_completed done name s p d n v = by_part p where
   two xs = name_line name ∷ codes "possible" ∷ xs
 
   by_part : (p : Part) → BeginsSome (joined (flat_map survey_lines done ++ lines_of (Some (UpTo name s p))))
-  by_part part.Possible = completed done t (two []) (seen_lines s ++ ends) d (record { name = n; field = v }) refl
+  by_part part.Possible = completed done t (two []) (facts_lines s ++ ends) d (record { name = n; field = v }) refl
   by_part part.Lists = completed done t (two (lists_of s)) ((ms ++ (ws ++ (hs ++ fs))) ++ ends) d (record { name = n; field = v }) (ap two (append_assoc (lists_of s) (ms ++ (ws ++ (hs ++ fs))) ends))
   by_part part.Margin = completed done t (two (lists_of s ++ ms)) ((ws ++ (hs ++ fs)) ++ ends) d (record { name = n; field = v }) (ap two (part_split (lists_of s) ms (ws ++ (hs ++ fs)) ends))
   by_part part.Weakest = completed done t (two (lists_of s ++ (ms ++ ws))) ((hs ++ fs) ++ ends) d (record { name = n; field = v }) (ap two (part_split (lists_of s) (ms ++ ws) (hs ++ fs) ends))

@@ -45,11 +45,11 @@ pub no_more_left : {A : Type 0} (f : A → List (List ℕ)) (t : List ℕ) (xs :
 no_more_left f t xs i h = ap (λ ys. t ++ joined (flat_map f ys)) (drop_all i xs h) ∙ append-nil t
 
 -- the lines of what a possible log says, one behind the other
-pub seen_joined : (t p a : List ℕ) (xs ys : List (List ℕ)) (m w h d : List ℕ) {t1 t2 t3 t4 t5 t6 t7 t8 : List ℕ}
+pub facts_joined : (t p a : List ℕ) (xs ys : List (List ℕ)) (m w h d : List ℕ) {t1 t2 t3 t4 t5 t6 t7 t8 : List ℕ}
     → t1 ≡ t ++ p ++ lf ∷ [] → t2 ≡ t1 ++ a ++ lf ∷ [] → t3 ≡ t2 ++ joined xs → t4 ≡ t3 ++ joined ys
     → t5 ≡ t4 ++ m ++ lf ∷ [] → t6 ≡ t5 ++ w ++ lf ∷ [] → t7 ≡ t6 ++ h ++ lf ∷ [] → t8 ≡ t7 ++ d ++ lf ∷ []
     → t8 ≡ t ++ joined (p ∷ a ∷ xs ++ ys ++ m ∷ w ∷ h ∷ d ∷ [])
-seen_joined t p a xs ys m w h d e1 e2 e3 e4 e5 e6 e7 e8 = rw (e8, e7, e6, e5, e4, e3, e2, e1) (simp (append_assoc, joined-append) refl)
+facts_joined t p a xs ys m w h d e1 e2 e3 e4 e5 e6 e7 e8 = rw (e8, e7, e6, e5, e4, e3, e2, e1) (simp (append_assoc, joined-append) refl)
 
 -- a seal behind lines
 pub seal_joined : (t s : List ℕ) (lines : List (List ℕ)) {u v : List ℕ} → u ≡ t ++ joined lines → v ≡ u ++ s ++ lf ∷ [] → s ≡ seal lines → v ≡ t ++ joined (lines ++ seal lines ∷ [])

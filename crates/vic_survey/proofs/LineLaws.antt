@@ -1,5 +1,5 @@
 -- The lines of surveys are read back, and nothing else is read.
-use Rattle.vic_survey.proofs.ValueWords.{All-from_recursion, AllByRecursion, recursion_from_All, Bool, List, None, Option, Some, [], ap, arith, append_assoc, length-append, false, length, nat_lt, nat_le, refl, subst, sym, take, drop, take_at, drop_at, true, ℕ, ◌&&◌, ◌++◌, ◌∙◌, ◌∷◌, ◌≡◌, ◌≢◌, ◌≤◌, nat_tests, codes, decimal, BitMask, ShownUid, mask_text, uid_text, line_fault_name, found_text, certain_line, bytes_eq, le-leb, lt-ltb, ltb-true, leb-true, ne_eqb, and_parts, IsUid, IsShort, IsLineNumber, IsField, IsName, IsVisible, IsUtf8-from_is_utf8, is_utf8-from_IsUtf8, is_utf8, list_all, byte, take-append-drop, and_then, after, parted, line_number_in, uid_in, mask_in, found_in, certain_in, refused_in, is_visible, is_name, name_in, LineFault, fault_among, FAULTS, Field, Refused, Impossible, Frame, NotVicinity}
+use Rattle.vic_survey.proofs.ValueWords.{All-from_recursion, AllByRecursion, recursion_from_All, Bool, List, None, Option, Some, [], ap, arith, append_assoc, length-append, false, length, nat_lt, nat_le, refl, subst, sym, take, drop, take_at, drop_at, true, ℕ, ◌&&◌, ◌++◌, ◌∙◌, ◌∷◌, ◌≡◌, ◌≢◌, ◌≤◌, nat_tests, codes, decimal, BitMask, ShownUid, mask_text, uid_text, line_fault_name, found_text, certain_line, bytes_eq, le-leb, lt-ltb, ltb-true, leb-true, ne_eqb, and_parts, IsUid, IsShort, IsLineNumber, IsFieldInRange, IsName, IsVisible, IsUtf8-from_is_utf8, is_utf8-from_IsUtf8, is_utf8, list_all, byte, take-append-drop, and_then, after, parted, line_number_in, uid_in, mask_in, found_in, certain_in, refused_in, is_visible, is_name, name_in, LineFault, fault_among, FAULTS, SurveyedField, Refused, Impossible, Frame, NotVicinity}
 use Rattle.std.specs.Prelude.{IfSome}
 use Rattle.vic_log.specs.declared.fault.LineFault.TheVariants as fault
 use Rattle.vic_frame.specs.declared.fault.FrameFault.TheVariants as frame
@@ -109,7 +109,7 @@ named_once f w h =
 
 -- ---- what a log says that isn't possible
 
-refused_text_of : (w : List ℕ) (f : Field) → refused_in w ≡ Some f → ((codes "refused at line " ++ w) ∷ [] ≡ field_lines f) × IsField f
+refused_text_of : (w : List ℕ) (f : SurveyedField) → refused_in w ≡ Some f → ((codes "refused at line " ++ w) ∷ [] ≡ field_lines f) × IsFieldInRange f
 refused_text_of w f h =
     let p = then_some (parted (byte ":") w) _ f h in
     let n = then_some (line_number_in p.0.0) _ f p.2 in
@@ -121,17 +121,17 @@ refused_text_of w f h =
     let behind : p.0.1 ≡ codes " " ++ line_fault_name g.0 = after_text (codes " ") p.0.1 name.0 name.1 ∙ ap (λ xs. codes " " ++ xs) named.0 in
     let text : w ≡ decimal n.0 ++ (codes ": " ++ line_fault_name g.0) = parted_text (byte ":") w p.0 p.1 ∙ ap (λ xs. xs ++ byte ":" ∷ p.0.1) line.0 ∙ ap (λ xs. decimal n.0 ++ byte ":" ∷ xs) behind in
     let whole = ap (λ xs. (codes "refused at line " ++ xs) ∷ []) (text ∙ sym (append_assoc (decimal n.0) (codes ": ") (line_fault_name g.0))) in
-    subst (λ x. ((codes "refused at line " ++ w) ∷ [] ≡ field_lines x) × IsField x) it (whole, (line.1, named.1))
+    subst (λ x. ((codes "refused at line " ++ w) ∷ [] ≡ field_lines x) × IsFieldInRange x) it (whole, (line.1, named.1))
 
-pub field_text_of : (line : List ℕ) (f : Field) → field_in line ≡ Some f → (line ∷ [] ≡ field_lines f) × IsField f
+pub field_text_of : (line : List ℕ) (f : SurveyedField) → field_in line ≡ Some f → (line ∷ [] ≡ field_lines f) × IsFieldInRange f
 field_text_of line f h = by_first (line_after (codes "impossible at line ") line) refl where
-  by_first : (r : Option ℕ) → line_after (codes "impossible at line ") line ≡ r → (line ∷ [] ≡ field_lines f) × IsField f
+  by_first : (r : Option ℕ) → line_after (codes "impossible at line ") line ≡ r → (line ∷ [] ≡ field_lines f) × IsFieldInRange f
   by_first (Some n) e =
       let it : Impossible n ≡ f = cc (rw e at h) in
       let t = then_some (after (codes "impossible at line ") line) line_number_in n e in
       let d = line_number_text t.0 n t.2 in
       let text = after_text (codes "impossible at line ") line t.0 t.1 ∙ ap (λ xs. codes "impossible at line " ++ xs) d.0 in
-      subst (λ x. (line ∷ [] ≡ field_lines x) × IsField x) it (ap (λ xs. xs ∷ []) text, d.1)
+      subst (λ x. (line ∷ [] ≡ field_lines x) × IsFieldInRange x) it (ap (λ xs. xs ∷ []) text, d.1)
   by_first None e =
       let r : and_then (after (codes "refused at line ") line) refused_in ≡ Some f = rw e at h in
       let t = then_some (after (codes "refused at line ") line) refused_in f r in

@@ -9,7 +9,7 @@ use Rattle.std.proofs.Common.{take, add-one}
 use Rattle.std.specs.Prelude.{Result, Ok, Err, IfOk, IfSome, Option}
 use Rattle.vic_verdict.specs.Rising.{IsListOf}
 use Rattle.vic_margin.specs.Readings.{IsFirstOpened}
-use Rattle.vic_survey.specs.Parts.{AreOpen, IsShort}
+use Rattle.vic_survey.specs.Parts.{AreRisingMasks, IsShort}
 use Rattle.std.proofs.Math.Seq.{take-suc}
 use Rattle.vic_frame.specs.Masks.{lies_in}
 use Rattle.vic_log.specs.declared.entry.Entry.{Entry}
@@ -26,8 +26,8 @@ use Rattle.vic_log.specs.declared.entry.LogLine.{LogLine}
 use Rattle.vic_report.specs.Findings.{IsShownCertain, uids_of}
 use Rattle.vic_margin.specs.Margins.{IsWeakestBesides}
 use Rattle.vic_survey.proofs.ValueWords.{ShownUid}
-use Rattle.vic_survey.specs.declared.survey.Seen.{Seen}
-use Rattle.vic_survey.specs.Making.{AreOpenOf, HasUncertain, IsSeenOf, weakest_of}
+use Rattle.vic_survey.specs.declared.survey.FieldFacts.{FieldFacts}
+use Rattle.vic_survey.specs.Making.{AreOpenMasksOf, HasUncertain, AreFieldFactsOf, weakest_of}
 use Rattle.vic_survey.specs.inner.Kept.{AreKeptOf}
 use Rattle.vic_survey.proofs.Throughout.{has_other}
 
@@ -44,7 +44,7 @@ certain_open es ranges met certain u f i h =
     rw (f.told.uids_open u i ∙ there) refl
 
 pub masks_of : (es : List Entry) (ranges : List (ℕ × ℕ)) (met : Met) (certain : List ℕ) (masks others ms : List BitMask) → AreFactsOf es (is_open_in ranges) met certain
-    → AreAll (IsOpenMask (without_keys (is_open_in ranges) [])) masks → AreAll (IsOpenMask (has certain)) others → AreKeptOf (λ m. ¬ (Contains others m)) masks ms → AreOpenOf es ms
+    → AreAll (IsOpenMask (without_keys (is_open_in ranges) [])) masks → AreAll (IsOpenMask (has certain)) others → AreKeptOf (λ m. ¬ (Contains others m)) masks ms → AreOpenMasksOf es ms
 masks_of es ranges met certain masks others ms f a b kept = record {
   set = set;
   uids = λ u i. (
@@ -99,8 +99,8 @@ keeps_none P kept ms i y h is none w m =
     )
 
 -- it comes behind those that are kept
-pub keeps_order : (P : BitMask → Type 0) (kept ms : List BitMask) (i : ℕ) (y : BitMask) → AreOpen ms → i < length ms → y ≡ get_or ms i y → AreOpen kept
-    → ((m : BitMask) → Contains kept m ↔ (Contains (take i ms) m × P m)) → AreOpen (kept ++ y ∷ [])
+pub keeps_order : (P : BitMask → Type 0) (kept ms : List BitMask) (i : ℕ) (y : BitMask) → AreRisingMasks ms → i < length ms → y ≡ get_or ms i y → AreRisingMasks kept
+    → ((m : BitMask) → Contains kept m ↔ (Contains (take i ms) m × P m)) → AreRisingMasks (kept ++ y ∷ [])
 keeps_order P kept ms i y o h is valid w = record {
   rising = all_pairs_push ComesBefore kept y valid.rising before;
   short = All-push IsShort kept y valid.short (subst IsShort (sym is) (o.short i y h));
@@ -115,7 +115,7 @@ keeps_order P kept ms i y o h is valid w = record {
       subst (λ a. ComesBefore a y) there (subst (λ b. ComesBefore (get_or ms c.0 x) b) next (o.rising c.0 i x few h))
 
 -- all open masks of a set are masks in order
-pub all_open : (set : ℕ → Bool) (ms : List BitMask) → AreAll (IsOpenMask set) ms → AreOpen ms
+pub all_open : (set : ℕ → Bool) (ms : List BitMask) → AreAll (IsOpenMask set) ms → AreRisingMasks ms
 all_open set ms a = record {
   rising = a.rising;
   short = λ k d lt. let one = a.wanted k d lt in (one.short, one.is_mask.1);
@@ -138,11 +138,11 @@ opened_short ds es None h = tt
 opened_short ds es (Some m) h = (h.0.short, h.0.fits)
 
 -- what a possible log says, from what the calls returned
-pub seen_made : (lines : List LogLine) (set : ℕ → Bool) (met : Met) (certain : List ℕ) (told : List ShownUid) (s : Seen) → AreFactsOf (entries lines) set met certain
-    → uids_of told ≡ certain → All (IsShownCertain lines) told → s.certain ≡ told → ((es : List Entry) → AreFactsOf es set met certain → AreOpenOf es s.«open»)
+pub facts_made : (lines : List LogLine) (set : ℕ → Bool) (met : Met) (certain : List ℕ) (told : List ShownUid) (s : FieldFacts) → AreFactsOf (entries lines) set met certain
+    → uids_of told ≡ certain → All (IsShownCertain lines) told → s.certain ≡ told → ((es : List Entry) → AreFactsOf es set met certain → AreOpenMasksOf es s.«open»)
     → s.answers ≡ answers (entries lines) → IsWeakestBesides (entries lines) certain (weakest_of s)
-    → IsFirstOpened (hidden_entries (entries lines)) (entries lines) s.hidden → IsFirstOpened (deaf_entries (entries lines)) (entries lines) s.deaf → IsSeenOf lines s
-seen_made lines set met certain told s f uids shown is masks count weakest hidden deaf =
+    → IsFirstOpened (hidden_entries (entries lines)) (entries lines) s.hidden → IsFirstOpened (deaf_entries (entries lines)) (entries lines) s.deaf → AreFieldFactsOf lines s
+facts_made lines set met certain told s f uids shown is masks count weakest hidden deaf =
     let same : uids_of s.certain ≡ certain = ap uids_of is ∙ uids in
     record {
       possible = f.told.possible;

@@ -6,7 +6,7 @@ use Rattle.std.proofs.lemmas.Bool.{cases_lt}
 use Rattle.std.proofs.lemmas.List.{get_or_default}
 use Rattle.std.specs.List.{AllPairs, Contains}
 use Rattle.vic_tree.specs.OpenMasks.{ComesBefore}
-use Rattle.vic_survey.specs.Parts.{AreOpen}
+use Rattle.vic_survey.specs.Parts.{AreRisingMasks}
 
 -- no mask comes before itself, and of two only one before the other
 pub not_after : (a b : BitMask) → ComesBefore a b → ComesBefore b a → ⊥
@@ -33,7 +33,7 @@ only_first first others m up none (zero, lt, e) = e
 only_first first others m up none (suc k, lt, e) = absurd (none (subst (λ x. ComesBefore first x) e (up zero (suc k) m (omega arith) lt)))
 
 -- a later mask doesn't come before an earlier one
-pub not_before : (ms : List BitMask) (i j : ℕ) (d x : BitMask) → AreOpen ms → i ≤ j → j < length ms → x ≡ get_or ms i x → ComesBefore (get_or ms j d) x → ⊥
+pub not_before : (ms : List BitMask) (i j : ℕ) (d x : BitMask) → AreRisingMasks ms → i ≤ j → j < length ms → x ≡ get_or ms i x → ComesBefore (get_or ms j d) x → ⊥
 not_before ms i j d x o le lt is h = elim (cases_lt i j) [
   | inl less ↦ not_after (get_or ms i d) (get_or ms j d) (o.rising i j d less lt) (subst (ComesBefore (get_or ms j d)) here h)
   | inr from ↦

@@ -26,7 +26,7 @@ use Rattle.vic_report.specs.Findings.{IsShownCertain, uids_of}
 use Rattle.vic_margin.specs.Margins.{IsWeakestBesides}
 use Rattle.vic_margin.specs.UidMargins.{margin_before, margin_of, one_if}
 use Rattle.vic_margin.specs.declared.answer.Weakest.{Weakest}
-use Rattle.vic_survey.specs.Parts.{AreCertain}
+use Rattle.vic_survey.specs.Parts.{AreRisingUids}
 use Rattle.vic_survey.specs.declared.survey.TheConstants.{MAX_COUNT}
 
 -- ---- the lines of a log
@@ -92,7 +92,7 @@ shown_line version lines s log h = subst IsLineNumber h.number (line_number vers
 certain_uid : (es : List Entry) (u : ℕ) → IsPossible es → IsCertainUid es u → IsUid u
 certain_uid es u possible certain = IsUid-member possible.0 u possible.1 (certain possible.0 possible.1 possible.2)
 
-pub certain_valid : (version : Version) (lines : List LogLine) (certain : List ℕ) (told : List ShownUid) → IsLog version lines → IsPossible (entries lines) → IsListOf (IsCertainUid (entries lines)) certain → uids_of told ≡ certain → All (IsShownCertain lines) told → AreCertain told
+pub certain_valid : (version : Version) (lines : List LogLine) (certain : List ℕ) (told : List ShownUid) → IsLog version lines → IsPossible (entries lines) → IsListOf (IsCertainUid (entries lines)) certain → uids_of told ≡ certain → All (IsShownCertain lines) told → AreRisingUids told
 certain_valid version lines certain told log possible h same shown = record {
   rising = subst IsStrictlyIncreasing (sym same) h.rising;
   uids = λ k d lt.

@@ -8,7 +8,7 @@ use Rattle.std.specs.List.{AllPairs}
 use Rattle.std.specs.List.Sorted.{IsStrictlyIncreasing}
 use Rattle.vic_report.specs.Findings.{uids_of}
 use Rattle.vic_tree.specs.OpenMasks.{ComesBefore}
-use Rattle.vic_survey.specs.Parts.{AreCertain, AreOpen}
+use Rattle.vic_survey.specs.Parts.{AreRisingUids, AreRisingMasks}
 use Rattle.vic_survey.specs.inner.Rising.{is_above, is_above_last, is_behind, is_behind_last, comes_before}
 
 -- the last of a list, at its place
@@ -47,7 +47,7 @@ above_is (s ∷ us) u h some =
     let t : nat_lt (get_or (s ∷ us) (length us) s).uid u ≡ true = ap (λ o. is_above_last o u) (sym last) ∙ h in
     subst (λ x. x < u) (sym (ap (λ i. get_or (uids_of (s ∷ us)) i 0) place ∙ value)) (ltb-true (get_or (s ∷ us) (length us) s).uid u t)
 
-pub certain_push : (us : List ShownUid) (c : ShownUid) → AreCertain us → is_above us c.uid ≡ true → IsUid c.uid → IsLineNumber c.line → AreCertain (us ++ c ∷ [])
+pub certain_push : (us : List ShownUid) (c : ShownUid) → AreRisingUids us → is_above us c.uid ≡ true → IsUid c.uid → IsLineNumber c.line → AreRisingUids (us ++ c ∷ [])
 certain_push us c h above uid line = record {
   rising = rw (map-append (λ (w : ShownUid). w.uid) us (c ∷ [])) (rising_push (uids_of us) c.uid h.rising (λ some. above_is us c.uid above (rw (length_uids us) at some)));
   uids = All-push (λ (s : ShownUid). IsUid s.uid × IsLineNumber s.line) us c h.uids (uid, line);
@@ -78,7 +78,7 @@ behind_all ms m h behind k d lt = by_place (nat_lt k (length ms - 1)) refl where
       let place : k ≡ length ms - 1 = omega (arith, lt, ltb-false k (length ms - 1) e) in
       rw place last
 
-pub open_push : (ms : List BitMask) (m : BitMask) → AreOpen ms → is_behind ms m ≡ true → IsShort m → AreOpen (ms ++ m ∷ [])
+pub open_push : (ms : List BitMask) (m : BitMask) → AreRisingMasks ms → is_behind ms m ≡ true → IsShort m → AreRisingMasks (ms ++ m ∷ [])
 open_push ms m h behind short = record {
   rising = all_pairs_push ComesBefore ms m h.rising (behind_all ms m h.rising behind);
   short = All-push IsShort ms m h.short short;
@@ -87,7 +87,7 @@ open_push ms m h behind short = record {
 -- ---- the other way round: what stands in such a list
 
 -- the UID behind a list in order is above it
-pub certain_next : (us : List ShownUid) (c : ShownUid) (vs : List ShownUid) → AreCertain (us ++ c ∷ vs) → is_above us c.uid ≡ true
+pub certain_next : (us : List ShownUid) (c : ShownUid) (vs : List ShownUid) → AreRisingUids (us ++ c ∷ vs) → is_above us c.uid ≡ true
 certain_next [] c vs h = refl
 certain_next (s ∷ us) c vs h =
     let all = s ∷ us ++ c ∷ vs in
@@ -102,14 +102,14 @@ certain_next (s ∷ us) c vs h =
     let order : (get_or (s ∷ us) n s).uid < c.uid = rw (left, right) at below in
     ap (λ o. is_above_last o c.uid) last ∙ lt-ltb (get_or (s ∷ us) n s).uid c.uid order
 
-pub certain_at : (us : List ShownUid) (c : ShownUid) (vs : List ShownUid) → AreCertain (us ++ c ∷ vs) → IsUid c.uid × IsLineNumber c.line
+pub certain_at : (us : List ShownUid) (c : ShownUid) (vs : List ShownUid) → AreRisingUids (us ++ c ∷ vs) → IsUid c.uid × IsLineNumber c.line
 certain_at us c vs h = subst (λ (s : ShownUid). IsUid s.uid × IsLineNumber s.line) (at_end us vs c c) (h.uids (length us) c (omega (arith, length-append us (c ∷ vs))))
 
 before_back : (m n : BitMask) → ComesBefore m n → comes_before m n ≡ true
 before_back m n h = grind (arith, nat_tests)
 
 -- the same of masks
-pub open_next : (ms : List BitMask) (m : BitMask) (ns : List BitMask) → AreOpen (ms ++ m ∷ ns) → is_behind ms m ≡ true
+pub open_next : (ms : List BitMask) (m : BitMask) (ns : List BitMask) → AreRisingMasks (ms ++ m ∷ ns) → is_behind ms m ≡ true
 open_next [] m ns h = refl
 open_next (k ∷ ms) m ns h =
     let all = k ∷ ms ++ m ∷ ns in
@@ -123,11 +123,11 @@ open_next (k ∷ ms) m ns h =
     let order : ComesBefore (get_or (k ∷ ms) n k) m = rw (left, right) at before in
     ap (λ o. is_behind_last o m) last ∙ before_back (get_or (k ∷ ms) n k) m order
 
-pub open_at : (ms : List BitMask) (m : BitMask) (ns : List BitMask) → AreOpen (ms ++ m ∷ ns) → IsShort m
+pub open_at : (ms : List BitMask) (m : BitMask) (ns : List BitMask) → AreRisingMasks (ms ++ m ∷ ns) → IsShort m
 open_at ms m ns h = subst IsShort (at_end ms ns m m) (h.short (length ms) m (omega (arith, length-append ms (m ∷ ns))))
 
 -- the first of a list in order are in order
-pub certain_front : (us vs : List ShownUid) → AreCertain (us ++ vs) → AreCertain us
+pub certain_front : (us vs : List ShownUid) → AreRisingUids (us ++ vs) → AreRisingUids us
 certain_front us vs h = record {
   rising = λ k lt.
       let all = map-append (λ (w : ShownUid). w.uid) us vs in
@@ -136,7 +136,7 @@ certain_front us vs h = record {
   uids = λ k d lt. subst (λ (s : ShownUid). IsUid s.uid × IsLineNumber s.line) (get_or_append_left us vs d k lt) (h.uids k d (omega (arith, lt, length-append us vs)));
 }
 
-pub open_front : (ms ns : List BitMask) → AreOpen (ms ++ ns) → AreOpen ms
+pub open_front : (ms ns : List BitMask) → AreRisingMasks (ms ++ ns) → AreRisingMasks ms
 open_front ms ns h = record {
   rising = λ i j d lt short. rw (get_or_append_left ms ns d i (omega (arith, lt, short)), get_or_append_left ms ns d j short) at (h.rising i j d lt (omega (arith, short, length-append ms ns)));
   short = λ k d lt. subst IsShort (get_or_append_left ms ns d k lt) (h.short k d (omega (arith, lt, length-append ms ns)));

@@ -1,5 +1,5 @@
 -- Reading line by line: what is read so, and which lines can follow.
-use Rattle.vic_survey.proofs.RunWords.{List, None, Option, Some, [], ap, arith, append_assoc, append-nil, eqb-true, length, map, map-append, flat_map, refl, subst, sym, true, ℕ, ◌&&◌, ◌++◌, ◌==◌, ◌∙◌, ◌∷◌, ◌≡◌, ◌≤◌, codes, decimal, BitMask, ShownUid, mask_text, found_text, certain_line, bytes_eq, and_parts, IsShort, IsName, and_then, or_else, after, number_up_to, mask_in, found_in, certain_in, name_in, Possible, SurveyValue, Seen, open_line, lines_before, seal, survey_lines, IfSome, name_line, AreSurveys, All-push, IsSeen, IsSurvey, Begun, Named, UpTo, Unsealed, Part, is_above, is_behind, count_after, mask_after, found_after, nothing, with_answers, with_certain, with_open, with_margin, with_weakest, with_hidden, with_deaf, field_in, after_name, certain_after, more_certain, more_open, next_part, State, step_of, step, run, lists_of, lines_of, so_far, IsAt, IsBegun, IsState}
+use Rattle.vic_survey.proofs.RunWords.{List, None, Option, Some, [], ap, arith, append_assoc, append-nil, eqb-true, length, map, map-append, flat_map, refl, subst, sym, true, ℕ, ◌&&◌, ◌++◌, ◌==◌, ◌∙◌, ◌∷◌, ◌≡◌, ◌≤◌, codes, decimal, BitMask, ShownUid, mask_text, found_text, certain_line, bytes_eq, and_parts, IsShort, IsName, and_then, or_else, after, number_up_to, mask_in, found_in, certain_in, name_in, Possible, SurveyValue, FieldFacts, open_line, lines_before, seal, survey_lines, IfSome, name_line, AreSurveys, All-push, AreFactsInRange, IsSurvey, Begun, Named, UpTo, Unsealed, Part, is_above, is_behind, count_after, mask_after, found_after, nothing, with_answers, with_certain, with_open, with_margin, with_weakest, with_hidden, with_deaf, field_in, after_name, certain_after, more_certain, more_open, next_part, State, step_of, step, run, lists_of, lines_of, so_far, IsAt, IsBegun, IsState}
 use Rattle.std.specs.Prelude.{Result, Ok, Err, IfOk}
 use Rattle.vic_survey.specs.declared.begun.StepFault.{StepFault}
 use Rattle.vic_survey.specs.inner.Steps.{Gives}
@@ -38,7 +38,7 @@ after_name_adds name line b n h =
       lines = ap (λ ls. name_line name ∷ ls) (sym t.0);
       valid = record { name = n; field = t.1 };
     })) where
-      nothing_valid : IsSeen nothing
+      nothing_valid : AreFactsInRange nothing
       nothing_valid = record {
         answers = omega arith;
         certain = record { rising = λ k lt. absurd (omega (arith, lt)); uids = λ k d lt. absurd (omega (arith, lt)) };
@@ -72,7 +72,7 @@ none_there : (ms : List BitMask) → (length ms == 0) ≡ true → ms ≡ []
 none_there [] h = refl
 none_there (m ∷ ms) h = absurd (omega (arith, eqb-true (length (m ∷ ms)) 0 h))
 
-certain_adds : (name : List ℕ) (s : Seen) (line : List ℕ) (b : Begun) → IsName name → IsSeen s → more_certain name s line ≡ Some b → Adds (Some (UpTo name s part.Lists)) line (Some b)
+certain_adds : (name : List ℕ) (s : FieldFacts) (line : List ℕ) (b : Begun) → IsName name → AreFactsInRange s → more_certain name s line ≡ Some b → Adds (Some (UpTo name s part.Lists)) line (Some b)
 certain_adds name s line b n v h =
     let c = then_some (certain_after line) _ b h in
     let t = if_some (length s.«open» == 0 && is_above s.certain c.0.uid) _ b c.2 in
@@ -90,7 +90,7 @@ certain_adds name s line b n v h =
           → a ∷ map certain_line (us ++ c ∷ []) ++ map open_line ms ≡ (a ∷ map certain_line us ++ map open_line ms) ++ line ∷ []
       more_uids a us c ms line none text = rw (none, text, map-append certain_line us (c ∷ [])) (ap (λ xs. a ∷ xs) (append-nil (map certain_line us ++ certain_line c ∷ []) ∙ ap (λ xs. xs ++ certain_line c ∷ []) (sym (append-nil (map certain_line us)))))
 
-open_adds : (name : List ℕ) (s : Seen) (line : List ℕ) (b : Begun) → IsName name → IsSeen s → more_open name s line ≡ Some b → Adds (Some (UpTo name s part.Lists)) line (Some b)
+open_adds : (name : List ℕ) (s : FieldFacts) (line : List ℕ) (b : Begun) → IsName name → AreFactsInRange s → more_open name s line ≡ Some b → Adds (Some (UpTo name s part.Lists)) line (Some b)
 open_adds name s line b n v h =
     let m = then_some (mask_after (codes "open ") line) _ b h in
     let t = if_some (is_behind s.«open» m.0) _ b m.2 in
@@ -107,7 +107,7 @@ open_adds name s line b n v h =
 one_more : (ds ms : List (List ℕ)) {w line : List ℕ} → line ≡ w → ds ++ (ms ++ w ∷ []) ≡ (ds ++ ms) ++ line ∷ []
 one_more ds ms {w} e = sym (append_assoc ds ms (w ∷ [])) ∙ ap (λ l. (ds ++ ms) ++ l ∷ []) (sym e)
 
-pub part_adds : (name : List ℕ) (s : Seen) (p : Part) (line : List ℕ) (b : Begun) → IsName name → IsSeen s → IsAt p s → next_part name s p line ≡ Some b → Adds (Some (UpTo name s p)) line (Some b)
+pub part_adds : (name : List ℕ) (s : FieldFacts) (p : Part) (line : List ℕ) (b : Begun) → IsName name → AreFactsInRange s → IsAt p s → next_part name s p line ≡ Some b → Adds (Some (UpTo name s p)) line (Some b)
 part_adds name s part.Possible line b n v at h =
     let c = then_some (count_after (codes "answers ") line) _ b h in
     let it : UpTo name (with_answers s c.0) part.Lists ≡ b = cc (c.2) in
@@ -204,7 +204,7 @@ run-append st (x ∷ xs) ys = by_step (step st x) (λ a. run-append a xs ys) whe
   by_step (Some a) rest = rest a
 
 -- what a call returned is one more line
-pub part_more : (name : List ℕ) (s : Seen) (p : Part) (line : List ℕ) (r : Result Begun StepFault) → IsName name → IsSeen s → IsAt p s → Gives r (next_part name s p line)
+pub part_more : (name : List ℕ) (s : FieldFacts) (p : Part) (line : List ℕ) (r : Result Begun StepFault) → IsName name → AreFactsInRange s → IsAt p s → Gives r (next_part name s p line)
     → IfOk r (λ b. lines_of (Some b) ≡ lines_of (Some (UpTo name s p)) ++ line ∷ [])
 part_more name s p line (Ok b) n v at g = (part_adds name s p line b n v at g).lines
 part_more name s p line (Err e) n v at g = tt

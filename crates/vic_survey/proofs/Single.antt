@@ -1,5 +1,5 @@
 -- Lines of surveys have no LF, so lines that are joined can be told apart.
-use Rattle.vic_survey.proofs.RunWords.{AllByRecursion, recursion_from_All, Bool, List, None, Option, Some, [], ap, arith, append_assoc, false, length, length-append, map, nat_eq, refl, suc, true, zero, ℕ, ◌++◌, ◌+◌, ◌-◌, ◌^◌, ◌/◌, ◌%◌, ◌<◌, ◌∙◌, ◌∷◌, ◌≡◌, ◌≤◌, nat_tests, codes, decimal, BitMask, ShownUid, hex_bytes, mask_text, uid_text, line_fault_name, found_text, certain_line, or_parts, IsShort, IsLineNumber, IsVisible, has, encode_upper, upper_digits, to_be_bytes, w64, drop, slice_index, value_text, byte_count, joined, SurveyValue, Seen, open_line, seen_lines, field_lines, lines_before, seal, IsOneLine, IsField, ne_eqb, lt-ltb, IsSeen, IsSurvey, IfSome, LineFault, Frame, Field, Refused, Impossible, Possible, ◌==◌, if◌then◌else◌, IsUid}
+use Rattle.vic_survey.proofs.RunWords.{AllByRecursion, recursion_from_All, Bool, List, None, Option, Some, [], ap, arith, append_assoc, false, length, length-append, map, nat_eq, refl, suc, true, zero, ℕ, ◌++◌, ◌+◌, ◌-◌, ◌^◌, ◌/◌, ◌%◌, ◌<◌, ◌∙◌, ◌∷◌, ◌≡◌, ◌≤◌, nat_tests, codes, decimal, BitMask, ShownUid, hex_bytes, mask_text, uid_text, line_fault_name, found_text, certain_line, or_parts, IsShort, IsLineNumber, IsVisible, has, encode_upper, upper_digits, to_be_bytes, w64, drop, slice_index, value_text, byte_count, joined, SurveyValue, FieldFacts, open_line, facts_lines, field_lines, lines_before, seal, IsOneLine, IsFieldInRange, ne_eqb, lt-ltb, AreFactsInRange, IsSurvey, IfSome, LineFault, Frame, SurveyedField, Refused, Impossible, Possible, ◌==◌, if◌then◌else◌, IsUid}
 use Rattle.hex.specs.Hex.{encode_with}
 use Rattle.std.specs.Fmt.{digits, digits_onto, digit_glyph}
 use Rattle.vic_frame.specs.Crc.{crc}
@@ -90,8 +90,8 @@ open_single : (ms : List BitMask) → AllByRecursion IsShort ms → AllByRecursi
 open_single [] h = tt
 open_single (m ∷ ms) h = (no_lf_mask m h.0, open_single ms h.1)
 
-seen_single : (s : Seen) → IsSeen s → AllByRecursion IsOneLine (seen_lines s)
-seen_single s h = (
+facts_single : (s : FieldFacts) → AreFactsInRange s → AllByRecursion IsOneLine (facts_lines s)
+facts_single s h = (
   no_lf_decimal s.answers (omega (arith, h.answers)),
   both_single (map certain_line s.certain ++ map open_line s.«open») _
       (both_single (map certain_line s.certain) (map open_line s.«open») (certain_single s.certain (recursion_from_All (λ (t : ShownUid). IsUid t.uid × IsLineNumber t.line) s.certain h.certain.uids)) (open_single s.«open» (recursion_from_All IsShort s.«open» h.masks.short)))
@@ -100,10 +100,10 @@ seen_single s h = (
 
 pub lines_single : (s : SurveyValue) → IsSurvey s → AllByRecursion IsOneLine (lines_before s)
 lines_single s h = (no_lf_name s.name (recursion_from_All IsVisible s.name h.name.visible), field_single s.field h.field) where
-  field_single : (f : Field) → IsField f → AllByRecursion IsOneLine (field_lines f)
+  field_single : (f : SurveyedField) → IsFieldInRange f → AllByRecursion IsOneLine (field_lines f)
   field_single (Refused n f) k = (has_both (decimal n ++ codes ": ") (line_fault_name f) 10 (has_both (decimal n) (codes ": ") 10 (no_lf_decimal n (omega (arith, k.0.1))) refl) (no_lf_fault f), tt)
   field_single (Impossible n) k = (no_lf_decimal n (omega (arith, k.1)), tt)
-  field_single (Possible t) k = (refl, seen_single t k)
+  field_single (Possible t) k = (refl, facts_single t k)
 
 -- the digits of any number
 digits_single : (k n : ℕ) (acc : List ℕ) → has acc 10 ≡ false → has (digits_onto k 10 false n acc) 10 ≡ false

@@ -10,13 +10,13 @@ pub use Rattle.vic_frame.specs.Masks.{BitMask}
 pub use Rattle.vic_report.specs.declared.shown.ShownUid.{ShownUid}
 pub use Rattle.vic_text.specs.Digits.{hex_bytes, mask_text, uid_text}
 pub use Rattle.vic_survey.specs.Surveys.{SurveyValue}
-pub use Rattle.vic_survey.specs.SurveyText.{certain_line, open_line, found_text, seen_lines, field_lines, lines_before, seal, survey_lines, text_of}
-pub use Rattle.vic_survey.specs.declared.survey.Seen.{Seen}
+pub use Rattle.vic_survey.specs.SurveyText.{certain_line, open_line, found_text, facts_lines, field_lines, lines_before, seal, survey_lines, text_of}
+pub use Rattle.vic_survey.specs.declared.survey.FieldFacts.{FieldFacts}
 pub use Rattle.std.proofs.lemmas.Result.{on_ok_weaker}
 pub use Rattle.std.proofs.Common.{ap₂}
 pub use Rattle.vic_log.specs.Names.{line_fault_name}
-pub use Rattle.vic_survey.specs.declared.survey.Field.{Field}
-pub use Rattle.vic_survey.specs.declared.survey.Field.TheVariants.{Refused, Impossible, Possible}
+pub use Rattle.vic_survey.specs.declared.survey.SurveyedField.{SurveyedField}
+pub use Rattle.vic_survey.specs.declared.survey.SurveyedField.TheVariants.{Refused, Impossible, Possible}
 pub use Rattle.vic_frame.specs.Crc.{crc}
 pub use Rattle.std.proofs.Math.Seq.{drop-append_seam}
 pub use Rattle.std.proofs.lemmas.List.{take_all}

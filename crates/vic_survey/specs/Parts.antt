@@ -15,7 +15,7 @@ abbrev pub IsLineNumber : ℕ → Type 0
 IsLineNumber n = (1 ≤ n) × (n ≤ MAX_LINE_NUMBER)
 
 -- UIDs in rising order, each with the number of a line
-pub record AreCertain (certain : List ShownUid) : Type 0 where
+pub record AreRisingUids (certain : List ShownUid) : Type 0 where
   pub rising : IsStrictlyIncreasing (uids_of certain)
   pub uids : All (λ (s : ShownUid). IsUid s.uid × IsLineNumber s.line) certain
 
@@ -24,6 +24,6 @@ abbrev pub IsShort : BitMask → Type 0
 IsShort m = (m.len ≤ UID_BITS) × (m.value < 2 ^ m.len)
 
 -- masks of at most 56 bits, by length, then by value
-pub record AreOpen (masks : List BitMask) : Type 0 where
+pub record AreRisingMasks (masks : List BitMask) : Type 0 where
   pub rising : AllPairs ComesBefore masks
   pub short : All IsShort masks

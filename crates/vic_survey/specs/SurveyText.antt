@@ -9,9 +9,9 @@ use Rattle.vic_log.specs.Writing.{joined}
 use Rattle.vic_report.specs.declared.shown.ShownUid.{ShownUid}
 use Rattle.vic_text.specs.Digits.{hex_bytes, mask_text, uid_text}
 use Rattle.vic_survey.specs.Surveys.{SurveyValue}
-use Rattle.vic_survey.specs.declared.survey.Field.{Field}
-use Rattle.vic_survey.specs.declared.survey.Field.TheVariants.{Refused, Impossible, Possible}
-use Rattle.vic_survey.specs.declared.survey.Seen.{Seen}
+use Rattle.vic_survey.specs.declared.survey.SurveyedField.{SurveyedField}
+use Rattle.vic_survey.specs.declared.survey.SurveyedField.TheVariants.{Refused, Impossible, Possible}
+use Rattle.vic_survey.specs.declared.survey.FieldFacts.{FieldFacts}
 
 -- a certain UID, and a line that shows it
 abbrev pub certain_line : ShownUid → List ℕ
@@ -26,19 +26,19 @@ found_text None = codes "-"
 found_text (Some m) = mask_text m
 
 -- what a possible log says, after the line `possible`
-abbrev pub seen_lines : Seen → List (List ℕ)
-seen_lines s =
+abbrev pub facts_lines : FieldFacts → List (List ℕ)
+facts_lines s =
     (codes "answers " ++ decimal s.answers) ∷ map certain_line s.certain
     ++ map open_line s.«open»
     ++ (codes "margin " ++ decimal s.margin) ∷ (codes "weakest " ++ mask_text s.weakest)
     ∷ (codes "hidden " ++ found_text s.hidden) ∷ (codes "deaf " ++ found_text s.deaf) ∷ []
 
 -- what a log says
-abbrev pub field_lines : Field → List (List ℕ)
+abbrev pub field_lines : SurveyedField → List (List ℕ)
 field_lines (Refused n fault) =
     (codes "refused at line " ++ decimal n ++ codes ": " ++ line_fault_name fault) ∷ []
 field_lines (Impossible n) = (codes "impossible at line " ++ decimal n) ∷ []
-field_lines (Possible s) = codes "possible" ∷ seen_lines s
+field_lines (Possible s) = codes "possible" ∷ facts_lines s
 
 -- the line of a name
 abbrev pub name_line : List ℕ → List ℕ

@@ -4,7 +4,7 @@ ghost use Rattle.std.specs.Prelude.{◌≡◌};
 ghost use Rattle.vic_survey.specs.declared.begun.StepFault.{StepFault};
 
 use crate::name::Name;
-use crate::survey::{Seen, Survey};
+use crate::survey::{FieldFacts, Survey};
 use std::alloc::{AllocError, AllocFailed};
 
 /// What was read of a survey.
@@ -13,7 +13,7 @@ pub(crate) enum Begun {
     /// Its name.
     Named(Name),
     /// What a possible log says, up to a part; those behind it are as if the log said nothing.
-    UpTo(Name, Seen, Part),
+    UpTo(Name, FieldFacts, Part),
     /// All but its seal.
     Unsealed(Survey),
 }

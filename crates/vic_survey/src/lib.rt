@@ -8,7 +8,7 @@
 
 mod begun;
 mod fault;
-mod faults;
+mod fault_names;
 pub mod laws;
 mod making;
 mod name;
@@ -23,5 +23,5 @@ pub use fault::SurveysFault;
 pub use name::{MAX_NAME_LEN, Name};
 pub use read::read_surveys;
 pub use rising::{CertainUids, MAX_LINE_NUMBER, RisingMasks};
-pub use survey::{Field, MAX_COUNT, Seen, Survey};
+pub use survey::{FieldFacts, MAX_COUNT, Survey, SurveyedField};
 pub use write::push_survey;

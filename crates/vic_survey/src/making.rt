@@ -15,14 +15,14 @@ ghost use Rattle.vic_walk.specs.Steps.{AreLogParts};
 ghost use Rattle.vic_verdict.specs.Facts.{AreFactsOf};
 ghost use Rattle.vic_verdict.specs.Verdict.{IsVerdict};
 ghost use Rattle.vic_verdict.specs.declared.judging.Verdict.TheVariants.{Impossible};
-ghost use Rattle.vic_survey.specs.Making.{AreOpenOf, IsFieldOf, IsSeenOf};
-ghost use Rattle.vic_survey.specs.Parts.{AreOpen};
-ghost use Rattle.vic_survey.specs.Surveys.{IsField, IsSeen};
+ghost use Rattle.vic_survey.specs.Making.{AreOpenMasksOf, IsFieldOf, AreFieldFactsOf};
+ghost use Rattle.vic_survey.specs.Parts.{AreRisingMasks};
+ghost use Rattle.vic_survey.specs.Surveys.{IsFieldInRange, AreFactsInRange};
 ghost use Rattle.vic_survey.specs.inner.Kept.{AreKeptOf};
 
 use crate::name::Name;
 use crate::rising::{CertainUids, RisingMasks, comes_before};
-use crate::survey::{Field, Seen, Survey};
+use crate::survey::{FieldFacts, Survey, SurveyedField};
 use std::alloc::{AllocError, Global};
 use vic_frame::{FrameFault, Mask, Uid};
 use vic_log::{LineFault, Log, LogFault, read_log};
@@ -33,7 +33,7 @@ use vic_verdict::{Facts, facts_and_parts_of};
 use vic_walk::LogParts;
 
 impl Survey {
-    /// The survey of the text of a log, under a name. It fails only if memory is refused.
+    /// The survey of the text of a log, under a name.
     pub fn of(alloc: Global, name: Name, text: &[u8]) -> Result<Survey, AllocError>
         ensures name { IfOk result (λ s. s.name ≡ name) }
         ensures field { IfOk result (λ s. IsFieldOf text.now s.field) }
@@ -44,14 +44,14 @@ impl Survey {
 }
 
 /// What the text of a log says.
-fn field_of(alloc: Global, text: &[u8]) -> Result<Field, AllocError>
+fn field_of(alloc: Global, text: &[u8]) -> Result<SurveyedField, AllocError>
     ensures field { IfOk result (IsFieldOf text.now) }
-    ensures valid { IfOk result IsField }
+    ensures valid { IfOk result IsFieldInRange }
 {
     let log = match read_log(alloc, text) {
         Ok(log) => log,
         Err(LogFault::Line { line, fault }) => {
-            return Ok(Field::Refused {
+            return Ok(SurveyedField::Refused {
                 line,
                 fault: named_once(fault),
             });
@@ -60,11 +60,13 @@ fn field_of(alloc: Global, text: &[u8]) -> Result<Field, AllocError>
         Err(LogFault::Read | LogFault::Spent) => unreachable!(),
     };
     match facts_and_parts_of::<RangeSet>(alloc, &log)? {
-        Ok((facts, log_parts)) => Ok(Field::Possible(seen_of(alloc, log, facts, log_parts)?)),
+        Ok((facts, log_parts)) => Ok(SurveyedField::Possible(field_facts(
+            alloc, log, facts, log_parts,
+        )?)),
         Err(line) => {
             // by its clause `log` a proof sees that the number is that of a line
             let _lines = log.lines();
-            Ok(Field::Impossible { line })
+            Ok(SurveyedField::Impossible { line })
         }
     }
 }
@@ -81,17 +83,17 @@ fn named_once(fault: LineFault) -> LineFault
 }
 
 /// What a possible log says.
-fn seen_of(
+fn field_facts(
     alloc: Global,
     log: Log,
     facts: Facts<RangeSet>,
     log_parts: LogParts,
-) -> Result<Seen, AllocError>
+) -> Result<FieldFacts, AllocError>
     requires facts { AreFactsOf (entries log.lines) (is_open_in facts.«open») facts.met
         facts.certain }
     requires parts { AreLogParts (entries log.lines) log_parts }
-    ensures seen { IfOk result (IsSeenOf log.lines) }
-    ensures valid { IfOk result IsSeen }
+    ensures told { IfOk result (AreFieldFactsOf log.lines) }
+    ensures valid { IfOk result AreFactsInRange }
 {
     let shown = lines_of_certain(alloc, log.lines(), &facts.met, &facts.certain)?;
     let certain = CertainUids::of(shown);
@@ -103,9 +105,10 @@ fn seen_of(
         log_parts,
         facts.certain.as_slice(),
     )?;
+    // by its clause `masks` a proof sees that they are in order
     let _masks = open.as_slice();
     let Readings { hidden, deaf } = readings(alloc, log, facts.open.ranges())?;
-    Ok(Seen {
+    Ok(FieldFacts {
         answers,
         certain,
         open,
@@ -119,7 +122,7 @@ fn seen_of(
 /// The open masks of the UIDs that a log leaves open, without those all of whose UIDs are certain.
 fn open_masks(alloc: Global, facts: &Facts<RangeSet>) -> Result<RisingMasks, AllocError>
     ensures { IfOk result (λ ms. (es : List EntryValue) → AreFactsOf es
-        (is_open_in facts.now.«open») facts.now.met facts.now.certain → AreOpenOf es ms) }
+        (is_open_in facts.now.«open») facts.now.met facts.now.certain → AreOpenMasksOf es ms) }
 {
     let masks = facts
         .open
@@ -145,7 +148,7 @@ fn masks_without(
     masks: Vec<Mask>,
     others: &[Mask],
 ) -> Result<RisingMasks, AllocError>
-    requires masks { AreOpen masks.items }
+    requires masks { AreRisingMasks masks.items }
     requires others { AllPairs ComesBefore others.now }
     ensures { IfOk result (λ ms. AreKeptOf (λ m. ¬ (Contains others.now m)) masks.items ms) }
 {

@@ -35,28 +35,43 @@ struct ReadSoFar {
     count: usize,
 }
 
-/// Appends a text.
-fn put(text: &mut ArrayVec<u8, SEAL_ROOM>, word: &[u8])
-    requires { array_vec_len text.old + length word.now ≤ SEAL_ROOM }
-    ensures items { text.new.items ≡ text.old.items ++ word.now }
-    ensures len { array_vec_len text.new ≡ array_vec_len text.old + length word.now }
+/// The surveys of a text; a text of no surveys is refused at its first wrong line.
+pub fn read_surveys(alloc: Global, text: &[u8]) -> Result<Vec<Survey>, SurveysFault>
+    ensures found { IfOk result (λ v. text.now ≡ text_of v.items) }
+    ensures valid { IfOk result (λ v. AreSurveys v.items) }
+    ensures only { (ss : List SurveyValue) → AreSurveys ss → text.now ≡ text_of ss
+        → IfOk result (λ v. v.items ≡ ss) }
+    ensures refused { IfErr result (texts.Refuses text.now) }
 {
-    let Ok(()) = text.try_extend_from_slice(word) else {
-        unreachable!()
+    let mut reading = ReadSoFar {
+        surveys: Vec::new(alloc),
+        begun: None,
+        count: 0,
     };
-}
-
-/// The seal of that many lines, of which those before it have these bytes.
-fn seal_of(count: u64, before: &[u8]) -> ArrayVec<u8, SEAL_ROOM>
-    ensures { result.items
-        ≡ codes "end " ++ decimal count ++ codes " " ++ hex_bytes 2 (crc before.now) }
-{
-    let mut text = ArrayVec::new();
-    put(&mut text, b"end ");
-    put(&mut text, Buffer::new().format(count).as_bytes());
-    put(&mut text, b" ");
-    put(&mut text, hex_digits(2, u64::from(crc(before))).as_slice());
-    text
+    // so the numbers of lines fit: each line has a byte
+    let _lines = text.len() + 1;
+    // the text from the first line of the survey that was begun on
+    let mut first = text;
+    let mut rest = text;
+    let mut number = 0;
+    'lines: while let Some((line, more)) = parted(b'\n', rest) {
+        let before = &first[..first.len() - rest.len()];
+        reading = match take_line(alloc, reading, line, before) {
+            Ok(next) => next,
+            Err(StepFault::Wrong) => return Err(SurveysFault::Line { line: number + 1 }),
+            Err(StepFault::Memory) => return Err(SurveysFault::Memory),
+        };
+        if reading.begun.is_none() {
+            first = more;
+        }
+        rest = more;
+        number += 1;
+    }
+    if rest.is_empty() && reading.begun.is_none() {
+        Ok(reading.surveys)
+    } else {
+        Err(SurveysFault::Line { line: number + 1 })
+    }
 }
 
 /// Takes one more line, where the lines before it of its survey have these bytes.
@@ -83,7 +98,7 @@ fn take_line(
     let more = match begun {
         None => Begun::Named(read_name(alloc, line)?),
         Some(Begun::Named(name)) => after_name(alloc, name, line)?,
-        Some(Begun::UpTo(name, seen, part)) => next_part(name, seen, part, line)?,
+        Some(Begun::UpTo(name, facts, part)) => next_part(name, facts, part, line)?,
         Some(Begun::Unsealed(survey)) => return end_survey(surveys, survey, count, line, before),
     };
     Ok(ReadSoFar {
@@ -121,40 +136,26 @@ fn end_survey(
     })
 }
 
-/// The surveys of a text; a text of no surveys is refused at its first wrong line.
-pub fn read_surveys(alloc: Global, text: &[u8]) -> Result<Vec<Survey>, SurveysFault>
-    ensures found { IfOk result (λ v. text.now ≡ text_of v.items) }
-    ensures only { (ss : List SurveyValue) → AreSurveys ss → text.now ≡ text_of ss
-        → IfOk result (λ v. v.items ≡ ss) }
-    ensures refused { IfErr result (texts.Refuses text.now) }
+/// The seal of that many lines, of which those before it have these bytes.
+fn seal_of(count: u64, before: &[u8]) -> ArrayVec<u8, SEAL_ROOM>
+    ensures { result.items
+        ≡ codes "end " ++ decimal count ++ codes " " ++ hex_bytes 2 (crc before.now) }
 {
-    let mut reading = ReadSoFar {
-        surveys: Vec::new(alloc),
-        begun: None,
-        count: 0,
+    let mut text = ArrayVec::new();
+    put(&mut text, b"end ");
+    put(&mut text, Buffer::new().format(count).as_bytes());
+    put(&mut text, b" ");
+    put(&mut text, hex_digits(2, u64::from(crc(before))).as_slice());
+    text
+}
+
+/// Appends a text.
+fn put(text: &mut ArrayVec<u8, SEAL_ROOM>, word: &[u8])
+    requires { array_vec_len text.old + length word.now ≤ SEAL_ROOM }
+    ensures items { text.new.items ≡ text.old.items ++ word.now }
+    ensures len { array_vec_len text.new ≡ array_vec_len text.old + length word.now }
+{
+    let Ok(()) = text.try_extend_from_slice(word) else {
+        unreachable!()
     };
-    // so the numbers of lines fit: each line has a byte
-    let _lines = text.len() + 1;
-    // the text from the first line of the survey that was begun on
-    let mut first = text;
-    let mut rest = text;
-    let mut number = 0;
-    'lines: while let Some((line, more)) = parted(b'\n', rest) {
-        let before = &first[..first.len() - rest.len()];
-        reading = match take_line(alloc, reading, line, before) {
-            Ok(next) => next,
-            Err(StepFault::Wrong) => return Err(SurveysFault::Line { line: number + 1 }),
-            Err(StepFault::Memory) => return Err(SurveysFault::Memory),
-        };
-        if reading.begun.is_none() {
-            first = more;
-        }
-        rest = more;
-        number += 1;
-    }
-    if rest.is_empty() && reading.begun.is_none() {
-        Ok(reading.surveys)
-    } else {
-        Err(SurveysFault::Line { line: number + 1 })
-    }
 }

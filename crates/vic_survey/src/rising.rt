@@ -2,7 +2,7 @@
 
 ghost use Rattle.std.specs.Prelude.{◌≡◌, ◌==◌, ◌++◌, ◌∷◌, [], OnOk, length, true};
 ghost use Rattle.vic_frame.specs.Uids.{IsUid};
-ghost use Rattle.vic_survey.specs.Parts.{AreCertain, AreOpen, IsLineNumber, IsShort};
+ghost use Rattle.vic_survey.specs.Parts.{AreRisingUids, AreRisingMasks, IsLineNumber, IsShort};
 ghost use Rattle.vic_survey.specs.inner.Rising.{comes_before, is_above, is_behind};
 
 use std::alloc::{AllocError, Global};
@@ -26,13 +26,13 @@ pub struct CertainUids {
 impl Model for CertainUids {
     ghost use Rattle.std.specs.Prelude.{List};
     ghost use Rattle.vic_report.specs.declared.shown.ShownUid.{ShownUid};
-    ghost use Rattle.vic_survey.specs.Parts.{AreCertain};
+    ghost use Rattle.vic_survey.specs.Parts.{AreRisingUids};
 
     ghost Value = { List ShownUid };
 
     ghost view = { λ a. a.uids.items };
 
-    ghost invariant = { λ a. AreCertain a.uids.items };
+    ghost invariant = { λ a. AreRisingUids a.uids.items };
 }
 
 impl CertainUids {
@@ -47,7 +47,7 @@ impl CertainUids {
 
     /// Some, which rise, with lines that are in range.
     pub(crate) fn of(uids: Vec<ShownUid>) -> CertainUids
-        requires { AreCertain uids.items }
+        requires { AreRisingUids uids.items }
         ensures { result ≡ uids.items }
     {
         CertainUids { uids }
@@ -77,7 +77,7 @@ impl CertainUids {
     /// The UIDs, from the least to the greatest.
     pub fn as_slice(&self) -> &[ShownUid]
         ensures value { result.now ≡ self.now }
-        ensures certain { AreCertain self.now }
+        ensures certain { AreRisingUids self.now }
     {
         &self.uids
     }
@@ -92,13 +92,13 @@ pub struct RisingMasks {
 impl Model for RisingMasks {
     ghost use Rattle.std.specs.Prelude.{List};
     ghost use Rattle.vic_frame.specs.Masks.{BitMask};
-    ghost use Rattle.vic_survey.specs.Parts.{AreOpen};
+    ghost use Rattle.vic_survey.specs.Parts.{AreRisingMasks};
 
     ghost Value = { List BitMask };
 
     ghost view = { λ a. a.masks.items };
 
-    ghost invariant = { λ a. AreOpen a.masks.items };
+    ghost invariant = { λ a. AreRisingMasks a.masks.items };
 }
 
 impl RisingMasks {
@@ -113,7 +113,7 @@ impl RisingMasks {
 
     /// Some, which are in order.
     pub(crate) fn of(masks: Vec<Mask>) -> RisingMasks
-        requires { AreOpen masks.items }
+        requires { AreRisingMasks masks.items }
         ensures { result ≡ masks.items }
     {
         RisingMasks { masks }
@@ -149,7 +149,7 @@ impl RisingMasks {
     /// The masks, the shortest first.
     pub fn as_slice(&self) -> &[Mask]
         ensures value { result.now ≡ self.now }
-        ensures masks { AreOpen self.now }
+        ensures masks { AreRisingMasks self.now }
     {
         &self.masks
     }

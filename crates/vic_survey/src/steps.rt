@@ -2,7 +2,7 @@
 
 ghost use Rattle.std.specs.Prelude.{◌≡◌, ◌++◌, ◌∷◌, [], IfOk, Some};
 ghost use Rattle.vic_survey.specs.Names.{IsName};
-ghost use Rattle.vic_survey.specs.Surveys.{IsSeen};
+ghost use Rattle.vic_survey.specs.Surveys.{AreFactsInRange};
 ghost use Rattle.vic_survey.specs.declared.begun.Begun.TheVariants.{Named, UpTo};
 ghost use Rattle.vic_survey.specs.inner.Steps as spec;
 ghost use Rattle.vic_survey.specs.declared.begun.Part.TheVariants as part;
@@ -10,7 +10,7 @@ ghost use Rattle.vic_survey.specs.inner.Values.{name_in};
 
 use crate::begun::{Begun, Part, StepFault};
 use crate::name::Name;
-use crate::survey::{Field, Seen, Survey};
+use crate::survey::{FieldFacts, Survey, SurveyedField};
 use crate::values::{certain_after, count_after, field_in, found_after, mask_after};
 use std::alloc::Global;
 
@@ -38,7 +38,7 @@ pub(crate) fn after_name(alloc: Global, name: Name, line: &[u8]) -> Result<Begun
         spec.lines_of (Some b) ≡ spec.lines_of (Some (Named name)) ++ line.now ∷ []) }
 {
     if line == b"possible".as_slice() {
-        return Ok(Begun::UpTo(name, Seen::nothing(alloc), Part::Possible));
+        return Ok(Begun::UpTo(name, FieldFacts::nothing(alloc), Part::Possible));
     }
     match field_in(line) {
         Some(field) => Ok(Begun::Unsealed(Survey::new(name, field))),
@@ -47,100 +47,105 @@ pub(crate) fn after_name(alloc: Global, name: Name, line: &[u8]) -> Result<Begun
 }
 
 /// What a line makes of what a possible log says.
-pub(crate) fn next_part(name: Name, seen: Seen, part: Part, line: &[u8]) -> Result<Begun, StepFault>
+pub(crate) fn next_part(
+    name: Name,
+    facts: FieldFacts,
+    part: Part,
+    line: &[u8],
+) -> Result<Begun, StepFault>
     requires name { IsName name }
-    requires seen { IsSeen seen }
-    requires at { spec.IsAt part seen }
-    ensures read { spec.Gives result (spec.next_part name seen part line.now) }
+    requires facts { AreFactsInRange facts }
+    requires at { spec.IsAt part facts }
+    ensures read { spec.Gives result (spec.next_part name facts part line.now) }
     ensures more { IfOk result (λ b.
-        spec.lines_of (Some b) ≡ spec.lines_of (Some (UpTo name seen part)) ++ line.now ∷ []) }
+        spec.lines_of (Some b) ≡ spec.lines_of (Some (UpTo name facts part)) ++ line.now ∷ []) }
 {
-    after_part(name, seen, part, line)
+    after_part(name, facts, part, line)
 }
 
 /// The same, part by part.
-fn after_part(name: Name, seen: Seen, part: Part, line: &[u8]) -> Result<Begun, StepFault>
-    requires { IsSeen seen }
-    ensures { spec.Gives result (spec.next_part name seen part line.now) }
+fn after_part(name: Name, facts: FieldFacts, part: Part, line: &[u8]) -> Result<Begun, StepFault>
+    requires { AreFactsInRange facts }
+    ensures { spec.Gives result (spec.next_part name facts part line.now) }
 {
     match part {
-        Part::Possible => after_possible(name, seen, line),
-        Part::Lists => in_lists(name, seen, line),
-        Part::Margin => after_margin(name, seen, line),
-        Part::Weakest => after_weakest(name, seen, line),
-        Part::Hidden => after_hidden(name, seen, line),
+        Part::Possible => after_possible(name, facts, line),
+        Part::Lists => in_lists(name, facts, line),
+        Part::Margin => after_margin(name, facts, line),
+        Part::Weakest => after_weakest(name, facts, line),
+        Part::Hidden => after_hidden(name, facts, line),
     }
 }
 
 /// The number of answers.
-fn after_possible(name: Name, seen: Seen, line: &[u8]) -> Result<Begun, StepFault>
-    ensures { spec.Gives result (spec.next_part name seen part.Possible line.now) }
+fn after_possible(name: Name, facts: FieldFacts, line: &[u8]) -> Result<Begun, StepFault>
+    ensures { spec.Gives result (spec.next_part name facts part.Possible line.now) }
 {
     let Some(answers) = count_after(b"answers ", line) else {
         return Err(StepFault::Wrong);
     };
-    let mut seen = seen;
-    seen.answers = answers;
-    Ok(Begun::UpTo(name, seen, Part::Lists))
+    let mut facts = facts;
+    facts.answers = answers;
+    Ok(Begun::UpTo(name, facts, Part::Lists))
 }
 
 /// One more certain UID or open mask, or the margin.
-fn in_lists(name: Name, seen: Seen, line: &[u8]) -> Result<Begun, StepFault>
-    ensures { spec.Gives result (spec.next_part name seen part.Lists line.now) }
+fn in_lists(name: Name, facts: FieldFacts, line: &[u8]) -> Result<Begun, StepFault>
+    ensures { spec.Gives result (spec.next_part name facts part.Lists line.now) }
 {
-    let mut seen = seen;
+    let mut facts = facts;
     if let Some(one) = certain_after(line) {
-        if seen.open.is_empty() && seen.certain.is_above(one.uid) {
-            seen.certain.push(one)?;
-            return Ok(Begun::UpTo(name, seen, Part::Lists));
+        if facts.open.is_empty() && facts.certain.is_above(one.uid) {
+            facts.certain.push(one)?;
+            return Ok(Begun::UpTo(name, facts, Part::Lists));
         }
     }
     if let Some(mask) = mask_after(b"open ", line) {
-        if seen.open.is_behind(&mask) {
-            seen.open.push(mask)?;
-            return Ok(Begun::UpTo(name, seen, Part::Lists));
+        if facts.open.is_behind(&mask) {
+            facts.open.push(mask)?;
+            return Ok(Begun::UpTo(name, facts, Part::Lists));
         }
     }
     let Some(margin) = count_after(b"margin ", line) else {
         return Err(StepFault::Wrong);
     };
-    seen.margin = margin;
-    Ok(Begun::UpTo(name, seen, Part::Margin))
+    facts.margin = margin;
+    Ok(Begun::UpTo(name, facts, Part::Margin))
 }
 
 /// The weakest mask.
-fn after_margin(name: Name, seen: Seen, line: &[u8]) -> Result<Begun, StepFault>
-    ensures { spec.Gives result (spec.next_part name seen part.Margin line.now) }
+fn after_margin(name: Name, facts: FieldFacts, line: &[u8]) -> Result<Begun, StepFault>
+    ensures { spec.Gives result (spec.next_part name facts part.Margin line.now) }
 {
     let Some(weakest) = mask_after(b"weakest ", line) else {
         return Err(StepFault::Wrong);
     };
-    let mut seen = seen;
-    seen.weakest = weakest;
-    Ok(Begun::UpTo(name, seen, Part::Weakest))
+    let mut facts = facts;
+    facts.weakest = weakest;
+    Ok(Begun::UpTo(name, facts, Part::Weakest))
 }
 
 /// What hidden replies leave open.
-fn after_weakest(name: Name, seen: Seen, line: &[u8]) -> Result<Begun, StepFault>
-    ensures { spec.Gives result (spec.next_part name seen part.Weakest line.now) }
+fn after_weakest(name: Name, facts: FieldFacts, line: &[u8]) -> Result<Begun, StepFault>
+    ensures { spec.Gives result (spec.next_part name facts part.Weakest line.now) }
 {
     let Some(hidden) = found_after(b"hidden ", line) else {
         return Err(StepFault::Wrong);
     };
-    let mut seen = seen;
-    seen.hidden = hidden;
-    Ok(Begun::UpTo(name, seen, Part::Hidden))
+    let mut facts = facts;
+    facts.hidden = hidden;
+    Ok(Begun::UpTo(name, facts, Part::Hidden))
 }
 
 /// What a deaf reader leaves open.
-fn after_hidden(name: Name, seen: Seen, line: &[u8]) -> Result<Begun, StepFault>
-    requires { IsSeen seen }
-    ensures { spec.Gives result (spec.next_part name seen part.Hidden line.now) }
+fn after_hidden(name: Name, facts: FieldFacts, line: &[u8]) -> Result<Begun, StepFault>
+    requires { AreFactsInRange facts }
+    ensures { spec.Gives result (spec.next_part name facts part.Hidden line.now) }
 {
     let Some(deaf) = found_after(b"deaf ", line) else {
         return Err(StepFault::Wrong);
     };
-    let mut seen = seen;
-    seen.deaf = deaf;
-    Ok(Begun::Unsealed(Survey::new(name, Field::Possible(seen))))
+    let mut facts = facts;
+    facts.deaf = deaf;
+    Ok(Begun::Unsealed(Survey::new(name, SurveyedField::Possible(facts))))
 }

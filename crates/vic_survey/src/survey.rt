@@ -1,7 +1,7 @@
 //! What a log says of its field.
 
 ghost use Rattle.std.specs.Prelude.{◌≡◌};
-ghost use Rattle.vic_survey.specs.Surveys.{IsField, IsSurvey};
+ghost use Rattle.vic_survey.specs.Surveys.{IsFieldInRange, IsSurvey};
 ghost use Rattle.vic_survey.specs.inner.Steps.{nothing};
 
 use crate::name::Name;
@@ -18,19 +18,19 @@ const _: () = prove!(MAX_COUNT + 1 == MAX_LINES);
 
 /// What a log says of its field.
 #[derive(Drop)]
-pub enum Field {
+pub enum SurveyedField {
     /// The text is no log: this line has its first fault. A fault that a line and a frame have by
     /// the same name is that of the line.
     Refused { line: u32, fault: LineFault },
     /// No population could have produced the lines up to this one, and it is the first such line.
     Impossible { line: u32 },
     /// The log is possible.
-    Possible(Seen),
+    Possible(FieldFacts),
 }
 
 /// What a possible log says of its field.
 #[derive(Drop)]
-pub struct Seen {
+pub struct FieldFacts {
     /// How many of its slot lines say that tags answered.
     pub answers: u32,
     /// The UIDs that are in every population that could have produced it, each with a line that
@@ -51,12 +51,12 @@ pub struct Seen {
     pub deaf: Option<Mask>,
 }
 
-impl Seen {
+impl FieldFacts {
     /// What a log says of which nothing was read.
-    pub(crate) fn nothing(alloc: Global) -> Seen
+    pub(crate) fn nothing(alloc: Global) -> FieldFacts
         ensures { result ≡ nothing }
     {
-        Seen {
+        FieldFacts {
             answers: 0,
             certain: CertainUids::none(alloc),
             open: RisingMasks::none(alloc),
@@ -72,7 +72,7 @@ impl Seen {
 #[derive(Drop)]
 pub struct Survey {
     name: Name,
-    field: Field,
+    field: SurveyedField,
 }
 
 impl Model for Survey {
@@ -87,8 +87,8 @@ impl Model for Survey {
 
 impl Survey {
     /// The survey of a log with this name that says so.
-    pub fn new(name: Name, field: Field) -> Survey
-        requires { IsField field }
+    pub fn new(name: Name, field: SurveyedField) -> Survey
+        requires { IsFieldInRange field }
         ensures { result ≡ record { name = name; field = field } }
     {
         Survey { name, field }
@@ -103,7 +103,7 @@ impl Survey {
     }
 
     /// What the log says.
-    pub fn field(&self) -> &Field
+    pub fn field(&self) -> &SurveyedField
         ensures value { result.now ≡ self.now.field }
         ensures survey { IsSurvey self.now }
     {

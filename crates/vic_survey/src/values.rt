@@ -4,9 +4,9 @@ ghost use Rattle.std.specs.Prelude.{◌≡◌, ◌≤◌, None, Some, MatchOptio
 ghost use Rattle.vic_survey.specs.inner.Values as spec;
 ghost use Rattle.vic_survey.specs.inner.Steps as steps;
 
-use crate::faults::fault_named;
+use crate::fault_names::fault_named;
 use crate::rising::MAX_LINE_NUMBER;
-use crate::survey::{Field, MAX_COUNT};
+use crate::survey::{MAX_COUNT, SurveyedField};
 use bstr::ByteSlice;
 use vic_frame::{Mask, UID_BITS, Uid};
 use vic_report::ShownUid;
@@ -104,24 +104,24 @@ pub(crate) fn certain_after(line: &[u8]) -> Option<ShownUid>
 }
 
 /// What a log says that isn't possible.
-pub(crate) fn field_in(line: &[u8]) -> Option<Field>
+pub(crate) fn field_in(line: &[u8]) -> Option<SurveyedField>
     ensures { result ≡ steps.field_in line.now }
 {
     if let Some(line) = line_after(b"impossible at line ", line) {
-        return Some(Field::Impossible { line });
+        return Some(SurveyedField::Impossible { line });
     }
     refused_in(line.strip_prefix(b"refused at line ")?)
 }
 
 /// Why a text has no log.
-fn refused_in(text: &[u8]) -> Option<Field>
+fn refused_in(text: &[u8]) -> Option<SurveyedField>
     ensures { result ≡ spec.refused_in text.now }
 {
     let (digits, rest) = parted(b':', text)?;
     let line = line_number_in(digits)?;
     let name = rest.strip_prefix(b" ")?;
     let fault = fault_named(name)?;
-    Some(Field::Refused { line, fault })
+    Some(SurveyedField::Refused { line, fault })
 }
 
 /// The number behind words.

@@ -6,7 +6,7 @@ ghost use Rattle.vic_log.specs.Writing.{joined};
 ghost use Rattle.vic_text.specs.Digits.{hex_bytes, mask_text};
 ghost use Rattle.vic_survey.specs.SurveyText as spec;
 
-use crate::survey::{Field, Seen, Survey};
+use crate::survey::{FieldFacts, Survey, SurveyedField};
 use std::alloc::AllocError;
 use vic_frame::{Mask, crc};
 use vic_report::ShownUid;
@@ -36,9 +36,9 @@ fn push_lines(text: &mut Vec<u8>, survey: &Survey) -> Result<u64, AllocError>
         survey.name().as_str().as_bytes(),
     )?;
     match survey.field() {
-        Field::Refused { line, fault } => push_refused(text, *line, fault.name())?,
-        Field::Impossible { line } => push_counted(text, b"impossible at line ", *line)?,
-        Field::Possible(seen) => return push_seen(text, seen),
+        SurveyedField::Refused { line, fault } => push_refused(text, *line, fault.name())?,
+        SurveyedField::Impossible { line } => push_counted(text, b"impossible at line ", *line)?,
+        SurveyedField::Possible(facts) => return push_facts(text, facts),
     }
     Ok(2)
 }
@@ -100,21 +100,21 @@ fn push_found(text: &mut Vec<u8>, words: &[u8], mask: &Option<Mask>) -> Result<(
 }
 
 /// Appends what a possible log says, and says how many lines a survey has with it.
-fn push_seen(text: &mut Vec<u8>, seen: &Seen) -> Result<u64, AllocError>
+fn push_facts(text: &mut Vec<u8>, facts: &FieldFacts) -> Result<u64, AllocError>
     ensures text { OnOk result (text.new.items ≡ text.old.items
-        ++ joined (codes "possible" ∷ spec.seen_lines seen.now)) }
-    ensures count { IfOk result (λ n. n ≡ 2 + length (spec.seen_lines seen.now)) }
+        ++ joined (codes "possible" ∷ spec.facts_lines facts.now)) }
+    ensures count { IfOk result (λ n. n ≡ 2 + length (spec.facts_lines facts.now)) }
     ensures few { IfOk result (λ n. n < 2 ^ 63) }
 {
     push_line(text, b"possible", b"")?;
-    push_counted(text, b"answers ", seen.answers)?;
-    push_certain(text, seen.certain.as_slice())?;
-    push_open(text, seen.open.as_slice())?;
-    push_counted(text, b"margin ", seen.margin)?;
-    push_masked(text, b"weakest ", &seen.weakest)?;
-    push_found(text, b"hidden ", &seen.hidden)?;
-    push_found(text, b"deaf ", &seen.deaf)?;
-    Ok(7 + (seen.certain.as_slice().len() + seen.open.as_slice().len()) as u64)
+    push_counted(text, b"answers ", facts.answers)?;
+    push_certain(text, facts.certain.as_slice())?;
+    push_open(text, facts.open.as_slice())?;
+    push_counted(text, b"margin ", facts.margin)?;
+    push_masked(text, b"weakest ", &facts.weakest)?;
+    push_found(text, b"hidden ", &facts.hidden)?;
+    push_found(text, b"deaf ", &facts.deaf)?;
+    Ok(7 + (facts.certain.as_slice().len() + facts.open.as_slice().len()) as u64)
 }
 
 /// Appends certain UIDs, each with its line.

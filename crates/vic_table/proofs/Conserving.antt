@@ -6,11 +6,11 @@ use Rattle.std.specs.Prelude.{codes}
 use Rattle.vic_frame.specs.Uids.{AreDifferent}
 use Rattle.vic_table.specs.Cells.{cells_of}
 use Rattle.vic_table.specs.Columns.{separator_byte, are_of_catalogue, are_of_places, catalogue_columns, places_columns, named_columns, columns_under, columns_of, columns_fault, names_fault, is_misquoted, are_of_result, tells_elsewhere, first_line_fault}
-use Rattle.vic_table.specs.Conserved.{as_list, UidsAreConserved, IsTold, IsItems, told_uids}
+use Rattle.vic_table.specs.Conserved.{as_list, UidsAreConserved, IsInCell, IsInItem, told_uids}
 use Rattle.vic_table.specs.Contents.{hex_uid, hex_runs, is_blank, is_word, spelled_uid, tells_uid}
 use Rattle.vic_table.specs.Lines.{bytes_fault, table_lines}
 use Rattle.vic_table.specs.Rows.{cell_at, is_blank_line, is_no_uid, is_given, item_fault, item_of, item_line_fault, cells_item_fault, cells_item, item_uids}
-use Rattle.vic_table.specs.Table.{fault_of, line_fault, cells_fault, columns_named, item_on, items_upto, HasNoFault}
+use Rattle.vic_table.specs.Table.{fault_of, line_fault, fault_by_columns, columns_named, item_on, items_upto, HasNoFault}
 use Rattle.vic_table.specs.Values.{ItemValue}
 use Rattle.vic_table.specs.declared.columns.CatalogueColumns.{CatalogueColumns}
 use Rattle.vic_table.specs.declared.columns.Columns.{Columns}
@@ -165,7 +165,7 @@ spelled_told cell u h =
 module _ (c : CatalogueColumns) (lines : List (List ℕ)) (clean : HasNoFault lines) (columns_are : columns_named lines ≡ Some (Catalogue c)) where
   line_clean : (k : ℕ) (line : List ℕ) → slice_get lines (suc k) ≡ Some line → item_line_fault c (item_uids (items_upto c lines (suc k))) line ≡ None
   line_clean k line at =
-      sym (ap (cells_fault lines (suc k) line) columns_are)
+      sym (ap (fault_by_columns lines (suc k) line) columns_are)
       ∙ (none_of_two (bytes_fault (suc k) line) (line_fault lines (suc k) line) (sym (ap (fault_of lines (suc k)) at) ∙ clean (suc k))).1
 
   row_clean : (k : ℕ) (line : List ℕ) (cells : List (List ℕ)) → slice_get lines (suc k) ≡ Some line → cells_of (separator_byte c.separator) line ≡ Some cells → is_blank_line cells ≡ false → item_fault c (item_uids (items_upto c lines (suc k))) cells ≡ None
@@ -274,10 +274,10 @@ module _ (c : CatalogueColumns) (lines : List (List ℕ)) (clean : HasNoFault li
   once_upto (suc zero) = no_more_uids [] [] refl tt
   once_upto (suc (suc j)) = on_once j (once_upto (suc j)) (slice_get lines (suc j)) refl
 
-  told_is : (n u : ℕ) → IsTold c lines n u → IsItems (items_upto c lines (length lines)) n u
-  told_is zero u t = absurd (first_tells_none t.line t.cells t.place t.cell u t.there t.split t.in_it t.told)
+  told_is : (n u : ℕ) → IsInCell c lines n u → IsInItem (items_upto c lines (length lines)) n u
+  told_is zero u t = absurd (first_tells_none t.line t.cells t.index t.cell u t.there t.split t.in_it t.told)
   told_is (suc k) u t =
-      let row = row_tells k t.line t.cells t.place t.cell u t.there t.split t.in_it t.told in
+      let row = row_tells k t.line t.cells t.index t.cell u t.there t.split t.in_it t.told in
       let item = item_of c (suc (suc k)) t.line t.cells in
       let here = ap (λ xs. slice_get xs (length (items_upto c lines (suc k)))) (row_item_is k t.line t.cells t.there t.split row.0) ∙ get_seam (items_upto c lines (suc k)) item in
       let low = slice_get_within lines (suc k) t.line t.there in
@@ -287,19 +287,19 @@ module _ (c : CatalogueColumns) (lines : List (List ℕ)) (clean : HasNoFault li
 
   -- ---- an item's line
 
-  row_told : (k u : ℕ) (line : List ℕ) (cells : List (List ℕ)) → slice_get lines (suc k) ≡ Some line → cells_of (separator_byte c.separator) line ≡ Some cells → spelled_uid (cell_at cells c.uid) ≡ Some u → IsTold c lines (suc k) u
+  row_told : (k u : ℕ) (line : List ℕ) (cells : List (List ℕ)) → slice_get lines (suc k) ≡ Some line → cells_of (separator_byte c.separator) line ≡ Some cells → spelled_uid (cell_at cells c.uid) ≡ Some u → IsInCell c lines (suc k) u
   row_told k u line cells at split spells = record {
     line = line;
     there = at;
     cells = cells;
     split = split;
-    place = c.uid;
+    index = c.uid;
     cell = cell_at cells c.uid;
     in_it = cell_there cells c.uid u spells;
     told = spelled_told (cell_at cells c.uid) u spells;
   }
 
-  in_cells : (k n u : ℕ) (line : List ℕ) → slice_get lines (suc k) ≡ Some line → (o : Option (List (List ℕ))) → o ≡ cells_of (separator_byte c.separator) line → (j : ℕ) (item : ItemValue) → slice_get (cells_item c (suc (suc k)) line o) j ≡ Some item → item.line ≡ suc n → item.uid ≡ Some u → IsTold c lines n u
+  in_cells : (k n u : ℕ) (line : List ℕ) → slice_get lines (suc k) ≡ Some line → (o : Option (List (List ℕ))) → o ≡ cells_of (separator_byte c.separator) line → (j : ℕ) (item : ItemValue) → slice_get (cells_item c (suc (suc k)) line o) j ≡ Some item → item.line ≡ suc n → item.uid ≡ Some u → IsInCell c lines n u
   in_cells k n u line at None e j item there l i = absurd (none_there j item there)
   in_cells k n u line at (Some cells) e j item there l i = elim (cases_Bool (is_blank_line cells)) [
     | inl blank ↦ absurd (none_there j item (sym (ap (λ xs. slice_get xs j) (cond-true (is_blank_line cells) [] (item_of c (suc (suc k)) line cells ∷ []) blank)) ∙ there))
@@ -309,12 +309,12 @@ module _ (c : CatalogueColumns) (lines : List (List ℕ)) (clean : HasNoFault li
         rw number (row_told k u line cells at (sym e) (ap (λ x. x.uid) same ∙ i))
   ]
 
-  in_line : (k n u : ℕ) (o : Option (List ℕ)) → o ≡ slice_get lines k → (j : ℕ) (item : ItemValue) → slice_get (item_on c k o) j ≡ Some item → item.line ≡ suc n → item.uid ≡ Some u → IsTold c lines n u
+  in_line : (k n u : ℕ) (o : Option (List ℕ)) → o ≡ slice_get lines k → (j : ℕ) (item : ItemValue) → slice_get (item_on c k o) j ≡ Some item → item.line ≡ suc n → item.uid ≡ Some u → IsInCell c lines n u
   in_line zero n u o e j item there l i = absurd (none_there j item there)
   in_line (suc k) n u None e j item there l i = absurd (none_there j item there)
   in_line (suc k) n u (Some line) e j item there l i = in_cells k n u line (sym e) (cells_of (separator_byte c.separator) line) refl j item there l i
 
-  kept_upto : (m n u j : ℕ) (item : ItemValue) → slice_get (items_upto c lines m) j ≡ Some item → item.line ≡ suc n → item.uid ≡ Some u → IsTold c lines n u
+  kept_upto : (m n u j : ℕ) (item : ItemValue) → slice_get (items_upto c lines m) j ≡ Some item → item.line ≡ suc n → item.uid ≡ Some u → IsInCell c lines n u
   kept_upto zero n u j item there l i = absurd (none_there j item there)
   kept_upto (suc m) n u j item there l i = elim (either_part (items_upto c lines m) (item_on c m (slice_get lines m)) j item there) [
     | inl before ↦ kept_upto m n u j item before l i
@@ -327,5 +327,5 @@ conserved text catalogue is = record {
   kept = λ n u t. kept_upto catalogue.columns (table_lines text) is.no_fault is.columns (length (table_lines text)) n u t.index t.item (ap (λ items. slice_get items t.index) (sym is.items) ∙ t.there) t.line_is t.uid_is;
   once = rw is.items (once_upto catalogue.columns (table_lines text) is.no_fault is.columns (length (table_lines text)));
 } where
-  ap_items : (n u : ℕ) → IsItems (items_upto catalogue.columns (table_lines text) (length (table_lines text))) n u → IsItems catalogue.items n u
+  ap_items : (n u : ℕ) → IsInItem (items_upto catalogue.columns (table_lines text) (length (table_lines text))) n u → IsInItem catalogue.items n u
   ap_items n u h = rw is.items h

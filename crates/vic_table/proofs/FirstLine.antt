@@ -6,14 +6,14 @@ use Rattle.vic_table.specs.declared.fault.TableLineFault.TheVariants as fault
 use Rattle.vic_table.specs.declared.columns.Columns.{Columns}
 use Rattle.vic_table.specs.declared.columns.Separator.{Separator}
 use Rattle.vic_table.specs.declared.columns.Separator.TheVariants.{Comma, Semicolon, Tab}
-use Rattle.vic_table.specs.declared.columns.Under.{Under}
-use Rattle.vic_table.specs.declared.columns.Under.TheVariants.{Misquoted, Unnamed, Named}
+use Rattle.vic_table.specs.declared.columns.Head.{Head}
+use Rattle.vic_table.specs.declared.columns.Head.TheVariants.{Misquoted, Unnamed, Named}
 use Rattle.vic_table.specs.declared.fault.TableFault.{TableFault}
 use Rattle.vic_table.specs.declared.fault.TableFault.TheVariants.{Line, Memory}
 use Rattle.vic_table.specs.inner.Faults.{RefusesAt}
-use Rattle.vic_table.specs.inner.Under.{IsUnder}
+use Rattle.vic_table.specs.inner.Head.{IsHead}
 
-pub unnamed : (line : List ℕ) (separator : Separator) (cells : List (List ℕ)) (u : Under) → IsUnder line separator cells u → ((c : Columns) → u ≡ Named c → ⊥) → columns_under line separator ≡ None
+pub unnamed : (line : List ℕ) (separator : Separator) (cells : List (List ℕ)) (u : Head) → IsHead line separator cells u → ((c : Columns) → u ≡ Named c → ⊥) → columns_under line separator ≡ None
 unnamed line separator cells Misquoted is not_named = grind (arith, nat_tests)
 unnamed line separator cells Unnamed is not_named = is.1
 unnamed line separator cells (Named c) is not_named = absurd (not_named c refl)
@@ -25,7 +25,7 @@ pub record IsThird (line : List ℕ) (cells : List (List ℕ)) (c : Columns) : T
 not_misquoted : (a b : Bool) (o : Option (List (List ℕ))) (cells : List (List ℕ)) → o ≡ Some cells → (a && b && is_none o) ≡ false
 not_misquoted a b o cells e = grind (arith, nat_tests)
 
-pub third : (line : List ℕ) (cells : List (List ℕ)) (c : Columns) → columns_under line Comma ≡ None → columns_under line Semicolon ≡ None → IsUnder line Tab cells (Named c) → IsThird line cells c
+pub third : (line : List ℕ) (cells : List (List ℕ)) (c : Columns) → columns_under line Comma ≡ None → columns_under line Semicolon ≡ None → IsHead line Tab cells (Named c) → IsThird line cells c
 third line cells c comma semicolon is =
     let columns_is : columns_of line ≡ Some c = ap₂ (λ a b. option_or a (option_or b (columns_under line Tab))) comma semicolon ∙ is.1 in
     let right = not_misquoted (is_none (cells_of (separator_byte Comma) line)) (is_none (cells_of (separator_byte Semicolon) line)) (cells_of (separator_byte Tab) line) cells is.0 in
@@ -37,7 +37,7 @@ third line cells c comma semicolon is =
     }
 
 -- what is answered under the third separator
-pub answered : (line : List ℕ) (cells : List (List ℕ)) (c : Columns) (u : Under) → columns_under line Comma ≡ None → columns_under line Semicolon ≡ None → IsUnder line Tab cells u → u ≡ Named c
+pub answered : (line : List ℕ) (cells : List (List ℕ)) (c : Columns) (u : Head) → columns_under line Comma ≡ None → columns_under line Semicolon ≡ None → IsHead line Tab cells u → u ≡ Named c
     → (r : Result Columns TableFault) → MatchResult r (λ d. (d ≡ c) × (names_fault c cells ≡ None)) (RefusesAt 1 (names_fault c cells))
     → MatchResult r (λ d. (columns_of line ≡ Some d) × (first_line_fault line ≡ None)) (RefusesAt 1 (first_line_fault line))
 answered line cells c u comma semicolon is named r h = go r h where

@@ -2,7 +2,7 @@
 use Rattle.vic_table.proofs.Words.{◌≡◌, ◌≢◌, ℕ, ◌<◌, ◌+◌, List, [], ◌∷◌, ◌++◌, None, true, Bool, ◌||◌, refl, sym, ap, ◌∙◌, arith, nat_tests, common_steps, length, drop, take, get_or, filter, is_some, list_any, or-false, length-append, filter-append, filter_more, take-append-drop}
 use Rattle.std.specs.List.{position_or_len, slice_split}
 use Rattle.std.proofs.lemmas.List.Splits.{slice_split_first}
-use Rattle.vic_table.specs.Contents.{hex_uid, has_uid, is_no_hex_digit, is_digit_of_uid}
+use Rattle.vic_table.specs.Contents.{hex_uid, has_uid, is_no_hex_digit, is_no_filler}
 
 pub hex_uid-len : (digits : List ℕ) → length digits ≢ 16 → hex_uid digits ≡ None
 hex_uid-len digits h = grind (arith, nat_tests)
@@ -19,12 +19,12 @@ pub has_uid-next : (cell : List ℕ) → position_or_len is_no_hex_digit cell < 
 has_uid-next cell h = ap (list_any (λ run. is_some (hex_uid run))) (slice_split_first is_no_hex_digit cell 0 h)
 
 -- one digit too many
-pub filter_past : (cell : List ℕ) (i : ℕ) → i < length cell → is_digit_of_uid (get_or cell i 0) ≡ true → length (filter is_digit_of_uid (take i cell)) ≡ 16 → hex_uid (filter is_digit_of_uid cell) ≡ None
-filter_past cell i h d full = hex_uid-len (filter is_digit_of_uid cell) (λ e. absurd (omega (arith, e, full, one_more, parts))) where
-  one_more : length (filter is_digit_of_uid (take (i + 1) cell)) ≡ length (filter is_digit_of_uid (take i cell)) + 1
-  one_more = grind (arith, common_steps, filter_more is_digit_of_uid cell i 0 h)
+pub filter_past : (cell : List ℕ) (i : ℕ) → i < length cell → is_no_filler (get_or cell i 0) ≡ true → length (filter is_no_filler (take i cell)) ≡ 16 → hex_uid (filter is_no_filler cell) ≡ None
+filter_past cell i h d full = hex_uid-len (filter is_no_filler cell) (λ e. absurd (omega (arith, e, full, one_more, parts))) where
+  one_more : length (filter is_no_filler (take (i + 1) cell)) ≡ length (filter is_no_filler (take i cell)) + 1
+  one_more = grind (arith, common_steps, filter_more is_no_filler cell i 0 h)
 
-  parts : length (filter is_digit_of_uid cell) ≡ length (filter is_digit_of_uid (take (i + 1) cell)) + length (filter is_digit_of_uid (drop (i + 1) cell))
-  parts = ap (λ c. length (filter is_digit_of_uid c)) (sym (whole cell (i + 1))) ∙ (ap length (filter-append is_digit_of_uid (take (i + 1) cell) (drop (i + 1) cell)) ∙ length-append (filter is_digit_of_uid (take (i + 1) cell)) (filter is_digit_of_uid (drop (i + 1) cell))) where
+  parts : length (filter is_no_filler cell) ≡ length (filter is_no_filler (take (i + 1) cell)) + length (filter is_no_filler (drop (i + 1) cell))
+  parts = ap (λ c. length (filter is_no_filler c)) (sym (whole cell (i + 1))) ∙ (ap length (filter-append is_no_filler (take (i + 1) cell) (drop (i + 1) cell)) ∙ length-append (filter is_no_filler (take (i + 1) cell)) (filter is_no_filler (drop (i + 1) cell))) where
     whole : (xs : List ℕ) (n : ℕ) → take n xs ++ drop n xs ≡ xs
     whole xs n = take-append-drop n xs

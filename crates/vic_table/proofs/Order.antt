@@ -10,7 +10,7 @@ use Rattle.vic_table.specs.Columns.{columns_of, columns_fault, first_line_fault,
 use Rattle.vic_table.specs.Lines.{bytes_fault}
 use Rattle.vic_table.specs.Reordered.{unnumbered, unnumbered_row, AreReordered, OrderMakesNoFault}
 use Rattle.vic_table.specs.Rows.{line_item, item_line_fault, item_uids, line_place_row, place_line_fault}
-use Rattle.vic_table.specs.Table.{HasNoFault, fault_behind, fault_of, cells_fault, rows_fault, no_items, items_upto, place_rows_upto}
+use Rattle.vic_table.specs.Table.{HasNoFault, fault_behind, fault_of, fault_by_columns, rows_fault, items_fault, items_upto, place_rows_upto}
 use Rattle.vic_table.specs.Values.{ItemValue}
 use Rattle.vic_table.specs.declared.columns.Columns.{Columns}
 use Rattle.vic_table.specs.declared.columns.Columns.TheVariants.{Catalogue, Places}
@@ -21,7 +21,7 @@ use Rattle.vic_table.specs.declared.fault.TableLineFault.TheVariants as fault
 
 -- the lines behind the first have no fault, in a table with these columns
 abbrev AreClean : List ℕ → Option Columns → List (List ℕ) → Type 0
-AreClean head o rest = (n : ℕ) (line : List ℕ) → slice_get rest n ≡ Some line → option_or (bytes_fault (suc n) line) (cells_fault (head ∷ rest) (suc n) line o) ≡ None
+AreClean head o rest = (n : ℕ) (line : List ℕ) → slice_get rest n ≡ Some line → option_or (bytes_fault (suc n) line) (fault_by_columns (head ∷ rest) (suc n) line o) ≡ None
 
 record IsClean (head : List ℕ) (rest : List (List ℕ)) : Type 0 where
   pub first : option_or (bytes_fault 0 head) (first_line_fault head) ≡ None
@@ -63,11 +63,11 @@ module _ (head : List ℕ) (rest moved : List (List ℕ)) (m : IsPermutation res
   r : AreReordered (head ∷ rest) (head ∷ moved)
   r = record { head = head; rest = rest; moved = moved; lines_are = refl; others_are = refl; same = m }
 
-  some_items : (items : List ItemValue) → no_items items ≡ None → 1 ≤ passing unnumbered (λ _. true) items
+  some_items : (items : List ItemValue) → items_fault items ≡ None → 1 ≤ passing unnumbered (λ _. true) items
   some_items [] h = cc
   some_items (item ∷ items) h = let e = passing-cons unnumbered (λ _. true) item items in omega arith
 
-  items_there : (items : List ItemValue) → 1 ≤ passing unnumbered (λ _. true) items → no_items items ≡ None
+  items_there : (items : List ItemValue) → 1 ≤ passing unnumbered (λ _. true) items → items_fault items ≡ None
   items_there [] h = absurd (omega arith)
   items_there (item ∷ items) h = refl
 

@@ -4,7 +4,7 @@ use Rattle.std.specs.BTreeSet.{BTreeSet}
 use Rattle.std.specs.declared.vec.Vec.{Vec}
 use Rattle.vic_table.specs.Lines.{bytes_fault}
 use Rattle.vic_table.specs.Rows.{is_named, item_line_fault, line_item, item_uids, place_line_fault, line_place_row}
-use Rattle.vic_table.specs.Table.{fault_behind, fault_of, end_fault, cells_fault, rows_fault, no_items, columns_named, items_upto, place_rows_upto, item_on, place_row_on, HasNoFault, IsFirstFault}
+use Rattle.vic_table.specs.Table.{fault_behind, fault_of, end_fault, fault_by_columns, rows_fault, items_fault, columns_named, items_upto, place_rows_upto, item_on, place_row_on, HasNoFault, IsFirstFault}
 use Rattle.vic_table.specs.Values.{ItemValue, PlaceRowValue}
 use Rattle.vic_table.specs.declared.columns.CatalogueColumns.{CatalogueColumns}
 use Rattle.vic_table.specs.declared.columns.PlacesColumns.{PlacesColumns}
@@ -91,7 +91,7 @@ item_fault_behind : {c : CatalogueColumns} {lines : List (List ℕ)} {n : ℕ} {
     → fault_behind lines n ≡ option_or (bytes_fault n line) (item_line_fault c (item_uids items) line)
 item_fault_behind {n = zero} a some line at = absurd (omega arith)
 item_fault_behind {c = c} {lines = lines} {n = suc k} a some line at =
-    ap (fault_of lines (suc k)) at ∙ ap (option_or (bytes_fault (suc k) line)) (ap (cells_fault lines (suc k) line) a.columns_are ∙ ap (λ items. item_line_fault c (item_uids items) line) (sym a.items_are))
+    ap (fault_of lines (suc k)) at ∙ ap (option_or (bytes_fault (suc k) line)) (ap (fault_by_columns lines (suc k) line) a.columns_are ∙ ap (λ items. item_line_fault c (item_uids items) line) (sym a.items_are))
 
 item_next : (c : CatalogueColumns) (lines : List (List ℕ)) (n : ℕ) (line : List ℕ) → 0 < n → slice_get lines n ≡ Some line → items_upto c lines (suc n) ≡ items_upto c lines n ++ line_item c (suc n) line
 item_next c lines zero line some at = absurd (omega arith)
@@ -117,16 +117,16 @@ module _ {c : CatalogueColumns} {lines : List (List ℕ)} {n : ℕ} {items : Lis
   end_is zero low e = absurd (omega arith)
   end_is (suc k) low e = cond-true (suc k == length lines) (rows_fault lines (columns_named lines)) None (eq-eqb (suc k) (length lines) e)
 
-  fault_is : fault_behind lines n ≡ no_items items
+  fault_is : fault_behind lines n ≡ items_fault items
   fault_is =
       ap (fault_of lines n) (at_end a.clean)
       ∙ (end_is n some (count_is a.clean)
-      ∙ (ap (rows_fault lines) a.columns_are ∙ ap no_items (ap (items_upto c lines) (sym (count_is a.clean)) ∙ sym a.items_are)))
+      ∙ (ap (rows_fault lines) a.columns_are ∙ ap items_fault (ap (items_upto c lines) (sym (count_is a.clean)) ∙ sym a.items_are)))
 
   pub no_items_refused : items ≡ [] → IsFirstFault lines (suc n) fault.NoItems
-  no_items_refused none = record { before = n; number_is = refl; here = fault_is ∙ ap no_items none; first = a.clean.clean }
+  no_items_refused none = record { before = n; number_is = refl; here = fault_is ∙ ap items_fault none; first = a.clean.clean }
 
-  some_items : (items : List ItemValue) → items ≢ [] → no_items items ≡ None
+  some_items : (items : List ItemValue) → items ≢ [] → items_fault items ≡ None
   some_items [] h = absurd (h refl)
   some_items (item ∷ items) h = refl
 
@@ -147,7 +147,7 @@ module _ {A : Type 0} where
       → fault_behind lines n ≡ option_or (bytes_fault n line) (place_line_fault c rows line)
   row_fault_behind {n = zero} a some line at = absurd (omega arith)
   row_fault_behind {c = c} {lines = lines} {n = suc k} a some line at =
-      ap (fault_of lines (suc k)) at ∙ ap (option_or (bytes_fault (suc k) line)) (ap (cells_fault lines (suc k) line) a.columns_are ∙ ap (λ rows. place_line_fault c rows line) (sym a.rows_are))
+      ap (fault_of lines (suc k)) at ∙ ap (option_or (bytes_fault (suc k) line)) (ap (fault_by_columns lines (suc k) line) a.columns_are ∙ ap (λ rows. place_line_fault c rows line) (sym a.rows_are))
 
 row_next : (c : PlacesColumns) (lines : List (List ℕ)) (n : ℕ) (line : List ℕ) → 0 < n → slice_get lines n ≡ Some line → place_rows_upto c lines (suc n) ≡ place_rows_upto c lines n ++ line_place_row c (suc n) line
 row_next c lines zero line some at = absurd (omega arith)

@@ -2,6 +2,7 @@
 use Rattle.vic_table.proofs.Words.{◌≡◌, ℕ, suc, Bool, true, false, not, Option, Some, None, List, [], ◌∷◌, ◌++◌, length, refl, sym, ap, subst, ◌∙◌, cond-false, cond-true, option_or, if◌then◌else◌, ◌==◌, append-nil, has, option_map}
 use Rattle.std.specs.Prelude.{codes, slice_range}
 use Rattle.std.specs.BTreeSet.{BTreeSet}
+use Rattle.vic_table.specs.Conserved.{as_list}
 use Rattle.vic_table.specs.Cells.{cells_of}
 use Rattle.vic_table.specs.Columns.{separator_byte, tells_elsewhere}
 use Rattle.vic_table.specs.Contents.{spelled_uid}
@@ -15,7 +16,7 @@ use Rattle.vic_table.specs.declared.fault.TableFault.TheVariants.{Line, Memory}
 use Rattle.vic_table.specs.declared.item_list.Item.{Item}
 use Rattle.vic_table.specs.inner.Faults.{RefusesAt, shape_fault, rest_fault}
 use Rattle.vic_table.specs.inner.Kept.{item_value}
-use Rattle.vic_table.specs.inner.Sets.{IsSetOf, IsItemOf, TellsNew, uid_or_none}
+use Rattle.vic_table.specs.inner.Sets.{IsSetOf, IsItemOf, TellsNew}
 
 in_parts : (a b d : Bool) (x y z : TableLineFault) (o : Option TableLineFault) → (if a then Some x else (if b then Some y else (if d then Some z else o))) ≡ option_or (if a then Some x else (if b then Some y else (if d then Some z else None))) o
 in_parts true b d x y z o = refl
@@ -53,13 +54,13 @@ module _ (c : CatalogueColumns) (given line : List ℕ) (before : ℕ) (cells : 
   row_refused Memory r = tt
 
   pub row_taken : (text : List ℕ) (set : BTreeSet ℕ) (item : Item) → item_fault c given cells ≡ None → item_value text item ≡ item_of c (suc before) line cells
-      → IsSetOf (given ++ uid_or_none (spelled_uid (cell_at cells c.uid))) set → IsItemOf c given before text line set (Some item)
+      → IsSetOf (given ++ as_list (spelled_uid (cell_at cells c.uid))) set → IsItemOf c given before text line set (Some item)
   row_taken text set item none is s = record {
     no_fault = fault_is ∙ none;
     item_is = ap (λ i. i ∷ []) is ∙ sym item_is;
     set_is = λ u. s u ∙ ap (λ us. has (given ++ us) u) (same (spelled_uid (cell_at cells c.uid)) ∙ ap item_uids (sym item_is));
   } where
-    same : (uid : Option ℕ) → uid_or_none uid ≡ item_uids (record { line = suc before; row = line; uid = uid; place = (item_of c (suc before) line cells).place; away = (item_of c (suc before) line cells).away } ∷ [])
+    same : (uid : Option ℕ) → as_list uid ≡ item_uids (record { line = suc before; row = line; uid = uid; place = (item_of c (suc before) line cells).place; away = (item_of c (suc before) line cells).away } ∷ [])
     same None = refl
     same (Some u) = refl
 
@@ -83,10 +84,10 @@ pub row_done : (c : CatalogueColumns) (before : List ℕ) (cells : List (List �
     → shape_fault c cells ≡ None → rest_fault c cells ≡ None → TellsNew before item.uid true set
     → item.uid ≡ spelled_uid (cell_at cells c.uid) → option_map (λ p. p.items) item.place ≡ place_at cells c.place → item.away ≡ is_word_at (codes "away") cells c.away
     → item.line ≡ number → item.start ≡ start → item.end ≡ end
-    → (item_fault c before cells ≡ None) × ((text : List ℕ) → item_value text item ≡ item_of c number (slice_range text start end) cells) × IsSetOf (before ++ uid_or_none (spelled_uid (cell_at cells c.uid))) set
+    → (item_fault c before cells ≡ None) × ((text : List ℕ) → item_value text item ≡ item_of c number (slice_range text start end) cells) × IsSetOf (before ++ as_list (spelled_uid (cell_at cells c.uid))) set
 row_done c before cells number start end item set shape rest new uid place away l s e =
     let P : Option ℕ → Type 0 = λ o. is_given before o ≡ false in
-    let Q : Option ℕ → Type 0 = λ o. IsSetOf (before ++ uid_or_none o) set in (
+    let Q : Option ℕ → Type 0 = λ o. IsSetOf (before ++ as_list o) set in (
       item_fault-rest c before cells shape (subst P uid (not_given (is_given before item.uid) new.is_new)) ∙ rest,
       (λ text. rw (l, s, e, uid, place, away) refl),
       subst Q uid (new.set_is refl),

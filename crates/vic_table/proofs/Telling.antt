@@ -12,10 +12,10 @@ use Rattle.hex.specs.Hex.{decode_sized, is_hex_digit}
 use Rattle.hex.proofs.HexLemmas.{IsOk-decode_sized}
 use Rattle.vic_table.proofs.HexDigits.{hex_uid-len}
 use Rattle.vic_table.specs.Conserved.{as_list, told_uids}
-use Rattle.vic_table.specs.Contents.{is_space, is_blank, trimmed_start, trimmed_end, trimmed, folded, is_word, is_digit_of_uid, is_no_hex_digit, hex_uid, uid_with, hex_runs, has_uid, spelled_uid, tells_uid}
+use Rattle.vic_table.specs.Contents.{is_space, is_blank, trimmed_start, trimmed_end, trimmed, folded, is_word, is_no_filler, is_no_hex_digit, hex_uid, uid_with, hex_runs, has_uid, spelled_uid, tells_uid}
 
 abbrev pub digits : List ℕ → List ℕ
-digits cell = filter is_digit_of_uid cell
+digits cell = filter is_no_filler cell
 
 -- ---- a run of hex digits in a cell
 
@@ -96,12 +96,12 @@ is_ok_from : (r : Result (List ℕ) FromHexError) (u : ℕ) → uid_with r ≡ S
 is_ok_from (Ok bytes) u h = grind (arith, nat_tests)
 is_ok_from (Err e) u h = cc
 
-hex_digit_stays : (b : ℕ) → is_hex_digit b ≡ true → is_digit_of_uid b ≡ true
+hex_digit_stays : (b : ℕ) → is_hex_digit b ≡ true → is_no_filler b ≡ true
 hex_digit_stays b h = grind (arith, nat_tests)
 
 digits_stay : (run : List ℕ) → list_all is_hex_digit run ≡ true → digits run ≡ run
 digits_stay [] h = refl
-digits_stay (b ∷ run) h = let p = and_parts (is_hex_digit b) (list_all is_hex_digit run) h in cond-true (is_digit_of_uid b) (b ∷ digits run) (digits run) (hex_digit_stays b p.0) ∙ ap (λ xs. b ∷ xs) (digits_stay run p.1)
+digits_stay (b ∷ run) h = let p = and_parts (is_hex_digit b) (list_all is_hex_digit run) h in cond-true (is_no_filler b) (b ∷ digits run) (digits run) (hex_digit_stays b p.0) ∙ ap (λ xs. b ∷ xs) (digits_stay run p.1)
 
 run_is : (run : List ℕ) (u : ℕ) → hex_uid run ≡ Some u → (length run ≡ 16) × (digits run ≡ run)
 run_is run u h =
@@ -132,8 +132,8 @@ in_run cell u s = record { enough = omega (arith, size, parts, long); only = λ 
 
   whole : digits cell ≡ digits s.within.before ++ (s.run ++ digits s.within.behind)
   whole = ap digits s.within.whole
-      ∙ (filter-append is_digit_of_uid s.within.before (s.run ++ s.within.behind)
-      ∙ ap (λ xs. digits s.within.before ++ xs) (filter-append is_digit_of_uid s.run s.within.behind ∙ ap (λ xs. xs ++ digits s.within.behind) (run_is s.run u is).1))
+      ∙ (filter-append is_no_filler s.within.before (s.run ++ s.within.behind)
+      ∙ ap (λ xs. digits s.within.before ++ xs) (filter-append is_no_filler s.run s.within.behind ∙ ap (λ xs. xs ++ digits s.within.behind) (run_is s.run u is).1))
 
   parts : length (digits cell) ≡ length (digits s.within.before) + length (s.run ++ digits s.within.behind)
   parts = ap length whole ∙ length-append (digits s.within.before) (s.run ++ digits s.within.behind)
@@ -174,32 +174,32 @@ told_tells cell u h = elim (or_cases (has (filter_map hex_uid (hex_runs cell)) u
 
 -- ---- a short cell
 
-space_goes : (b : ℕ) → is_space b ≡ true → is_digit_of_uid b ≡ false
+space_goes : (b : ℕ) → is_space b ≡ true → is_no_filler b ≡ false
 space_goes b h = grind (arith, nat_tests)
 
 start_kept : (cell : List ℕ) → digits (trimmed_start cell) ≡ digits cell
 start_kept [] = refl
 start_kept (b ∷ cell) = elim (cases_Bool (is_space b)) [
-  | inl space ↦ ap digits (cond-true (is_space b) (trimmed_start cell) (b ∷ cell) space) ∙ (start_kept cell ∙ sym (cond-false (is_digit_of_uid b) (b ∷ digits cell) (digits cell) (space_goes b space)))
+  | inl space ↦ ap digits (cond-true (is_space b) (trimmed_start cell) (b ∷ cell) space) ∙ (start_kept cell ∙ sym (cond-false (is_no_filler b) (b ∷ digits cell) (digits cell) (space_goes b space)))
   | inr other ↦ ap digits (cond-false (is_space b) (trimmed_start cell) (b ∷ cell) other)
 ]
 
 pub blank_has_none : (cell : List ℕ) → is_blank cell ≡ true → digits cell ≡ []
 blank_has_none [] h = refl
-blank_has_none (b ∷ cell) h = let p = and_parts (is_space b) (is_blank cell) h in cond-false (is_digit_of_uid b) (b ∷ digits cell) (digits cell) (space_goes b p.0) ∙ blank_has_none cell p.1
+blank_has_none (b ∷ cell) h = let p = and_parts (is_space b) (is_blank cell) h in cond-false (is_no_filler b) (b ∷ digits cell) (digits cell) (space_goes b p.0) ∙ blank_has_none cell p.1
 
 end_kept : (cell : List ℕ) → digits (trimmed_end cell) ≡ digits cell
 end_kept [] = refl
 end_kept (b ∷ cell) = elim (cases_Bool (is_blank (b ∷ cell))) [
   | inl blank ↦ ap digits (cond-true (is_blank (b ∷ cell)) [] (b ∷ trimmed_end cell) blank) ∙ sym (blank_has_none (b ∷ cell) blank)
-  | inr other ↦ ap digits (cond-false (is_blank (b ∷ cell)) [] (b ∷ trimmed_end cell) other) ∙ ap (λ xs. cond (is_digit_of_uid b) (b ∷ xs) xs) (end_kept cell)
+  | inr other ↦ ap digits (cond-false (is_blank (b ∷ cell)) [] (b ∷ trimmed_end cell) other) ∙ ap (λ xs. cond (is_no_filler b) (b ∷ xs) xs) (end_kept cell)
 ]
 
 filter_short : (cell : List ℕ) → length (digits cell) ≤ length cell
 filter_short [] = omega arith
-filter_short (b ∷ cell) = elim (cases_Bool (is_digit_of_uid b)) [
-  | inl here ↦ rw (cond-true (is_digit_of_uid b) (b ∷ digits cell) (digits cell) here) (omega (arith, filter_short cell))
-  | inr not_here ↦ rw (cond-false (is_digit_of_uid b) (b ∷ digits cell) (digits cell) not_here) (omega (arith, filter_short cell))
+filter_short (b ∷ cell) = elim (cases_Bool (is_no_filler b)) [
+  | inl here ↦ rw (cond-true (is_no_filler b) (b ∷ digits cell) (digits cell) here) (omega (arith, filter_short cell))
+  | inr not_here ↦ rw (cond-false (is_no_filler b) (b ∷ digits cell) (digits cell) not_here) (omega (arith, filter_short cell))
 ]
 
 -- a cell that is a word has no more digits than the word has letters

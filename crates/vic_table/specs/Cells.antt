@@ -17,7 +17,7 @@ abbrev pub with_cell : Option (List (List ℕ)) → Option (List (List ℕ))
 with_cell None = None
 with_cell (Some cells) = Some ([] ∷ cells)
 
--- the cells from a place in a line on, `None` if a quote is wrong there. A quote opens only where a
+-- the cells of the rest of a line, `None` if a quote is wrong in it. A quote opens only where a
 -- cell begins; it is doubled within, and behind the closing one is a separator or the line's end
 abbrev pub cells_from : ℕ → Spot → List ℕ → Option (List (List ℕ))
 cells_from separator Begin [] = Some ([] ∷ [])

@@ -19,12 +19,12 @@ separator_byte Comma = byte ","
 separator_byte Semicolon = byte ";"
 separator_byte Tab = tab
 
--- how many columns have a name, and the first that has it
+-- how many columns have a name, and the index of the first that has it
 abbrev pub count_of : List ℕ → List (List ℕ) → ℕ
 count_of name cells = count_by (is_word name) cells
 
-abbrev pub place_of : List ℕ → List (List ℕ) → Option ℕ
-place_of name cells = position (is_word name) cells
+abbrev pub index_of : List ℕ → List (List ℕ) → Option ℕ
+index_of name cells = position (is_word name) cells
 
 -- one column `uid`, at most one `place` and at most one `away`
 abbrev pub are_of_catalogue : List (List ℕ) → Bool
@@ -44,17 +44,17 @@ abbrev pub catalogue_columns : Separator → List (List ℕ) → CatalogueColumn
 catalogue_columns separator cells = record {
   separator = separator;
   count = length cells;
-  uid = unwrap_or (place_of (codes "uid") cells) 0;
-  place = place_of (codes "place") cells;
-  away = place_of (codes "away") cells;
+  uid = unwrap_or (index_of (codes "uid") cells) 0;
+  place = index_of (codes "place") cells;
+  away = index_of (codes "away") cells;
 }
 
 abbrev pub places_columns : Separator → List (List ℕ) → PlacesColumns
 places_columns separator cells = record {
   separator = separator;
   count = length cells;
-  place = unwrap_or (place_of (codes "place") cells) 0;
-  log = unwrap_or (place_of (codes "log") cells) 0;
+  place = unwrap_or (index_of (codes "place") cells) 0;
+  log = unwrap_or (index_of (codes "log") cells) 0;
 }
 
 -- the columns that these names are, if a table has such

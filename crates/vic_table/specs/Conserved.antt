@@ -20,18 +20,18 @@ abbrev pub told_uids : List ℕ → List ℕ
 told_uids cell = filter_map hex_uid (hex_runs cell) ++ as_list (spelled_uid cell)
 
 -- a cell of the line behind the first n has or spells the UID
-pub record IsTold (c : CatalogueColumns) (lines : List (List ℕ)) (n u : ℕ) : Type 0 where
+pub record IsInCell (c : CatalogueColumns) (lines : List (List ℕ)) (n u : ℕ) : Type 0 where
   pub line : List ℕ
   pub there : slice_get lines n ≡ Some line
   pub cells : List (List ℕ)
   pub split : cells_of (separator_byte c.separator) line ≡ Some cells
-  pub place : ℕ
+  pub index : ℕ
   pub cell : List ℕ
-  pub in_it : slice_get cells place ≡ Some cell
+  pub in_it : slice_get cells index ≡ Some cell
   pub told : has (told_uids cell) u ≡ true
 
 -- the item of that line has the UID
-pub record IsItems (items : List ItemValue) (n u : ℕ) : Type 0 where
+pub record IsInItem (items : List ItemValue) (n u : ℕ) : Type 0 where
   pub index : ℕ
   pub item : ItemValue
   pub there : slice_get items index ≡ Some item
@@ -41,8 +41,8 @@ pub record IsItems (items : List ItemValue) (n u : ℕ) : Type 0 where
 -- the UIDs of items are exactly those that cells have or spell, each in its item's line, and no two
 -- items have the same
 pub record IsConserved (lines : List (List ℕ)) (catalogue : CatalogueValue) : Type 0 where
-  pub told : (n u : ℕ) → IsTold catalogue.columns lines n u → IsItems catalogue.items n u
-  pub kept : (n u : ℕ) → IsItems catalogue.items n u → IsTold catalogue.columns lines n u
+  pub told : (n u : ℕ) → IsInCell catalogue.columns lines n u → IsInItem catalogue.items n u
+  pub kept : (n u : ℕ) → IsInItem catalogue.items n u → IsInCell catalogue.columns lines n u
   pub once : AreDifferent (item_uids catalogue.items)
 
 -- that, of each catalogue

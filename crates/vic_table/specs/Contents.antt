@@ -45,8 +45,8 @@ is_word word cell = bytes_eq (folded cell) word
 abbrev pub is_filler : ℕ → Bool
 is_filler b = is_space b || b == byte ":" || b == byte "-"
 
-abbrev pub is_digit_of_uid : ℕ → Bool
-is_digit_of_uid b = not (is_filler b)
+abbrev pub is_no_filler : ℕ → Bool
+is_no_filler b = not (is_filler b)
 
 -- the UID with these bytes, most significant first
 abbrev pub uid_with : Result (List ℕ) FromHexError → Option ℕ
@@ -60,7 +60,7 @@ hex_uid digits = uid_with (decode_sized digits 8)
 
 -- the UID that a cell spells: 16 hex digits are left without spaces, tabs, colons and hyphens
 abbrev pub spelled_uid : List ℕ → Option ℕ
-spelled_uid cell = hex_uid (filter is_digit_of_uid cell)
+spelled_uid cell = hex_uid (filter is_no_filler cell)
 
 abbrev pub is_no_hex_digit : ℕ → Bool
 is_no_hex_digit b = not (is_hex_digit b)

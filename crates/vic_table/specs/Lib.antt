@@ -5,7 +5,6 @@ pub mod Lines
 pub mod Values
 pub mod Rows
 pub mod Table
-pub mod Reads
 pub mod Conserved
 pub mod Reordered
 pub mod Names

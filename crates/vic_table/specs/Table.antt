@@ -13,6 +13,8 @@ use Rattle.vic_table.specs.declared.fault.TableLineFault.{TableLineFault}
 use Rattle.vic_table.specs.declared.fault.TableLineFault.TheVariants as fault
 use Rattle.vic_table.specs.declared.fault.TableFault.{TableFault}
 use Rattle.vic_table.specs.declared.fault.TableFault.TheVariants.{Line, Memory}
+use Rattle.vic_table.specs.declared.read.Table.{Table}
+use Rattle.vic_table.specs.declared.read.Table.TheVariants.{Catalogue as CatalogueTable, Places as PlacesTable}
 
 -- lines are counted from 0 here, by how many are before; their numbers, from 1
 
@@ -41,24 +43,25 @@ abbrev pub columns_named : List (List ℕ) → Option Columns
 columns_named lines = option_and_then columns_of (slice_get lines 0)
 
 -- what is wrong with a line behind the first n, in a table with these columns
-abbrev pub cells_fault : List (List ℕ) → ℕ → List ℕ → Option Columns → Option TableLineFault
-cells_fault lines n line None = None
-cells_fault lines n line (Some (Catalogue c)) =
+abbrev pub fault_by_columns : List (List ℕ) → ℕ → List ℕ → Option Columns → Option TableLineFault
+fault_by_columns lines n line None = None
+fault_by_columns lines n line (Some (Catalogue c)) =
     item_line_fault c (item_uids (items_upto c lines n)) line
-cells_fault lines n line (Some (Places c)) = place_line_fault c (place_rows_upto c lines n) line
+fault_by_columns lines n line (Some (Places c)) =
+    place_line_fault c (place_rows_upto c lines n) line
 
 abbrev pub line_fault : List (List ℕ) → ℕ → List ℕ → Option TableLineFault
 line_fault lines zero line = first_line_fault line
-line_fault lines (suc k) line = cells_fault lines (suc k) line (columns_named lines)
+line_fault lines (suc k) line = fault_by_columns lines (suc k) line (columns_named lines)
 
-abbrev pub no_items : List ItemValue → Option TableLineFault
-no_items [] = Some fault.NoItems
-no_items (item ∷ items) = None
+abbrev pub items_fault : List ItemValue → Option TableLineFault
+items_fault [] = Some fault.NoItems
+items_fault (item ∷ items) = None
 
--- a catalogue without items
+-- a catalogue without items has a fault
 abbrev pub rows_fault : List (List ℕ) → Option Columns → Option TableLineFault
 rows_fault lines None = None
-rows_fault lines (Some (Catalogue c)) = no_items (items_upto c lines (length lines))
+rows_fault lines (Some (Catalogue c)) = items_fault (items_upto c lines (length lines))
 rows_fault lines (Some (Places c)) = None
 
 -- what is wrong behind n lines where no more follow
@@ -101,6 +104,11 @@ pub record ArePlacesOf (text : List ℕ) (rows : List PlaceRowValue) : Type 0 wh
   pub columns : PlacesColumns
   pub columns_are : columns_named (table_lines text) ≡ Some (Places columns)
   pub rows_are : rows ≡ place_rows_upto columns (table_lines text) (length (table_lines text))
+
+-- the catalogue of a text, or the places of one
+abbrev pub IsTableOfText : List ℕ → Table → Type 0
+IsTableOfText text (CatalogueTable catalogue) = IsCatalogueOf text catalogue
+IsTableOfText text (PlacesTable rows) = ArePlacesOf text rows
 
 -- why a text has no table: its first fault, or refused memory
 abbrev pub Refuses : List ℕ → TableFault → Type 0

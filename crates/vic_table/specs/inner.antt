@@ -2,6 +2,6 @@
 pub mod Spans
 pub mod Reading
 pub mod Faults
-pub mod Under
+pub mod Head
 pub mod Kept
 pub mod Sets

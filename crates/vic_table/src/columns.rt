@@ -3,10 +3,10 @@
 ghost use Rattle.std.specs.Prelude.{◌≡◌, ◌≤◌, length, map, slice_range, Some, None, IfOk, MatchResult};
 ghost use Rattle.std.specs.Char.{to_ascii_lowercase};
 ghost use Rattle.std.specs.List.{list_any};
-ghost use Rattle.vic_table.specs.Columns.{separator_byte, count_of, place_of, named_columns, columns_of, names_fault, tells_elsewhere, is_of_this_version, is_of_version_1, is_of_result, first_line_fault};
+ghost use Rattle.vic_table.specs.Columns.{separator_byte, count_of, index_of, named_columns, columns_of, names_fault, tells_elsewhere, is_of_this_version, is_of_version_1, is_of_result, first_line_fault};
 ghost use Rattle.vic_table.specs.Contents.{tells_uid};
 ghost use Rattle.vic_table.specs.inner.Faults.{RefusesAt};
-ghost use Rattle.vic_table.specs.inner.Under.{IsUnder, is_misquoted_under};
+ghost use Rattle.vic_table.specs.inner.Head.{IsHead, is_misquoted_head};
 
 use crate::cells::LineCells;
 use crate::contents::{is_word, trimmed};
@@ -25,7 +25,7 @@ pub enum Separator {
     Tab,
 }
 
-/// The columns of a catalogue, counted from 0.
+/// The columns of a catalogue, each by its index, counted from 0.
 #[derive(Clone, Copy, Debug)]
 pub struct CatalogueColumns {
     pub separator: Separator,
@@ -36,7 +36,7 @@ pub struct CatalogueColumns {
     pub away: Option<usize>,
 }
 
-/// The columns of a table of places, counted from 0.
+/// The columns of a table of places, each by its index, counted from 0.
 #[derive(Clone, Copy, Debug)]
 pub struct PlacesColumns {
     pub separator: Separator,
@@ -66,9 +66,9 @@ impl Separator {
     }
 }
 
-/// What a first line is under a separator.
+/// A first line, split under a separator.
 #[derive(Clone, Copy, Debug)]
-enum Under {
+enum Head {
     /// A quote is wrong.
     Misquoted,
     /// Its cells aren't the columns of a table.
@@ -77,11 +77,11 @@ enum Under {
     Named(Columns),
 }
 
-impl Under {
+impl Head {
     fn is_misquoted(&self) -> bool
-        ensures { result ≡ is_misquoted_under self.now }
+        ensures { result ≡ is_misquoted_head self.now }
     {
-        matches!(self, Under::Misquoted)
+        matches!(self, Head::Misquoted)
     }
 }
 
@@ -99,10 +99,10 @@ fn count_of(cells: &LineCells, name: &[u8]) -> usize
     count
 }
 
-/// The first column that has a name, given in lower case.
-fn place_of(cells: &LineCells, name: &[u8]) -> Option<usize>
+/// The index of the first column that has a name, given in lower case.
+fn index_of(cells: &LineCells, name: &[u8]) -> Option<usize>
     requires { map to_ascii_lowercase name.now ≡ name.now }
-    ensures { result ≡ place_of name.now cells.now }
+    ensures { result ≡ index_of name.now cells.now }
 {
     for index in 0..cells.len() {
         if is_word(cells.get(index), name) {
@@ -122,17 +122,17 @@ fn named_columns(separator: Separator, cells: &LineCells) -> Option<Columns>
         return Some(Columns::Catalogue(CatalogueColumns {
             separator,
             count: cells.len(),
-            uid: place_of(cells, b"uid").unwrap_or(0),
-            place: place_of(cells, b"place"),
-            away: place_of(cells, b"away"),
+            uid: index_of(cells, b"uid").unwrap_or(0),
+            place: index_of(cells, b"place"),
+            away: index_of(cells, b"away"),
         }));
     }
     if uids == 0 && places == 1 && count_of(cells, b"log") == 1 {
         return Some(Columns::Places(PlacesColumns {
             separator,
             count: cells.len(),
-            place: place_of(cells, b"place").unwrap_or(0),
-            log: place_of(cells, b"log").unwrap_or(0),
+            place: index_of(cells, b"place").unwrap_or(0),
+            log: index_of(cells, b"log").unwrap_or(0),
         }));
     }
     None
@@ -213,20 +213,16 @@ fn names_fault(columns: &Columns, cells: &LineCells) -> Option<TableLineFault>
     }
 }
 
-/// What a first line is under a separator.
-fn columns_under(
-    cells: &mut LineCells,
-    separator: Separator,
-    line: &[u8],
-) -> Result<Under, AllocError>
-    ensures { IfOk result (IsUnder line.now separator cells.new) }
+/// Splits a first line under a separator.
+fn head_under(cells: &mut LineCells, separator: Separator, line: &[u8]) -> Result<Head, AllocError>
+    ensures { IfOk result (IsHead line.now separator cells.new) }
 {
     if !cells.split(separator.byte(), line)? {
-        return Ok(Under::Misquoted);
+        return Ok(Head::Misquoted);
     }
     Ok(match named_columns(separator, cells) {
-        Some(columns) => Under::Named(columns),
-        None => Under::Unnamed,
+        Some(columns) => Head::Named(columns),
+        None => Head::Unnamed,
     })
 }
 
@@ -248,16 +244,16 @@ pub(crate) fn first_columns(cells: &mut LineCells, line: &[u8]) -> Result<Column
         (λ c. (columns_of line.now ≡ Some c) × (first_line_fault line.now ≡ None))
         (RefusesAt 1 (first_line_fault line.now)) }
 {
-    let comma = columns_under(cells, Separator::Comma, line)?;
-    if let Under::Named(columns) = comma {
+    let comma = head_under(cells, Separator::Comma, line)?;
+    if let Head::Named(columns) = comma {
         return checked(columns, cells);
     }
-    let semicolon = columns_under(cells, Separator::Semicolon, line)?;
-    if let Under::Named(columns) = semicolon {
+    let semicolon = head_under(cells, Separator::Semicolon, line)?;
+    if let Head::Named(columns) = semicolon {
         return checked(columns, cells);
     }
-    let tab = columns_under(cells, Separator::Tab, line)?;
-    if let Under::Named(columns) = tab {
+    let tab = head_under(cells, Separator::Tab, line)?;
+    if let Head::Named(columns) = tab {
         return checked(columns, cells);
     }
     let misquoted = comma.is_misquoted() && semicolon.is_misquoted() && tab.is_misquoted();

@@ -1,4 +1,4 @@
-//! Items as they are kept, with the names of their places in one piece.
+//! Items as they are kept, with the bytes of all their places in one piece.
 
 ghost use Rattle.std.specs.Prelude.{◌≡◌, ◌<◌, ◌≤◌, ◌++◌, ◌∷◌, [], List, length, slice_get, IfOk, OnOk, IsSomeAnd};
 ghost use Rattle.std.specs.List.{All};
@@ -17,7 +17,7 @@ use vic_frame::Uid;
 pub(crate) struct Item {
     /// The number of its line.
     pub(crate) line: u32,
-    /// Where in the text its line is, without the line's end.
+    /// The offsets in the text at which its line begins and ends, without the line's end.
     pub(crate) start: usize,
     pub(crate) end: usize,
     /// `None` if it has no tag.

@@ -4,6 +4,7 @@ ghost use Rattle.std.specs.Prelude.{◌≡◌, ◌<◌, ◌≤◌, ◌-◌, ◌^
 ghost use Rattle.std.specs.Char.{to_ascii_lowercase};
 ghost use Rattle.std.specs.List.{All};
 ghost use Rattle.std.specs.Option.{ForSome, option_or, option_map};
+ghost use Rattle.vic_table.specs.Conserved.{as_list};
 ghost use Rattle.vic_table.specs.Contents.{spelled_uid};
 ghost use Rattle.vic_table.specs.Lines.{bytes_fault};
 ghost use Rattle.vic_table.specs.Rows.{cell_at, is_blank_line, is_word_at, place_at, item_fault, item_of, item_line_fault};
@@ -13,7 +14,7 @@ ghost use Rattle.vic_table.specs.declared.lines.TheConstants.{MAX_TABLE_LINES};
 ghost use Rattle.vic_table.specs.inner.Faults.{RefusesAt, shape_fault, rest_fault};
 ghost use Rattle.vic_table.specs.inner.Kept.{item_at, item_value, item_values, item_or_none, IsWithinText};
 ghost use Rattle.vic_table.specs.inner.Reading.{FollowsFirst, RefusesLines};
-ghost use Rattle.vic_table.specs.inner.Sets.{IsSetOf, IsItemOf, TellsNew, uid_or_none};
+ghost use Rattle.vic_table.specs.inner.Sets.{IsSetOf, IsItemOf, TellsNew};
 
 use crate::cells::LineCells;
 use crate::columns::{CatalogueColumns, tells_elsewhere};
@@ -60,7 +61,7 @@ fn is_word_at(cells: &LineCells, column: Option<usize>, word: &[u8]) -> bool
     }
 }
 
-/// The place of a column that the table may lack.
+/// The place that a row names in a column that the table may lack.
 fn place_at(
     alloc: Global,
     cells: &LineCells,
@@ -142,7 +143,7 @@ fn row_item(
         (λ item. (item_fault columns.now before cells.now ≡ None)
         × ((text : List ℕ) → item_value text item
         ≡ item_of columns.now line (slice_range text at.start at.end) cells.now)
-        × IsSetOf (before ++ uid_or_none (spelled_uid (cell_at cells.now columns.now.uid)))
+        × IsSetOf (before ++ as_list (spelled_uid (cell_at cells.now columns.now.uid)))
         uids.new)
         (RefusesAt line (item_fault columns.now before cells.now)) }
     ensures there { IfOk result (λ item. (item.start ≡ at.start) × (item.end ≡ at.end)) }
@@ -228,7 +229,7 @@ fn push_some(items: &mut ItemList, item: Option<Item>) -> Result<(), AllocError>
     }
 }
 
-/// The items of a catalogue whose second line begins at a place of a text.
+/// The items of a catalogue whose second line begins at an offset of a text.
 pub(crate) fn read_items(
     alloc: Global,
     columns: &CatalogueColumns,

@@ -19,7 +19,6 @@ mod listed;
 mod place_rows;
 mod places;
 mod read;
-mod table;
 mod uids;
 
 pub use catalogue::Catalogue;
@@ -29,6 +28,5 @@ pub use contents::{is_blank, trimmed};
 pub use fault::{TableFault, TableLineFault};
 pub use lines::{MAX_TABLE_LINE_LEN, MAX_TABLE_LINES};
 pub use places::Places;
-pub use read::read_table;
-pub use table::Table;
+pub use read::{Table, read_table};
 pub use uids::spelled_uid;

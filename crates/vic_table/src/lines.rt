@@ -19,13 +19,13 @@ pub const MAX_TABLE_LINE_LEN: usize = 16_384;
 /// The mark of UTF-8 at a text's start.
 const MARK: [u8; 3] = [0xEF, 0xBB, 0xBF];
 
-/// Where a line is in a text.
+/// The offsets of a line in a text.
 #[derive(Clone, Copy, Debug)]
 pub(crate) struct LineAt {
     pub(crate) start: usize,
-    /// Where its end begins.
+    /// That at which its end begins.
     pub(crate) end: usize,
-    /// Behind its end.
+    /// That behind its end.
     pub(crate) next: usize,
 }
 
@@ -55,7 +55,7 @@ fn len_without_cr(line: &[u8]) -> usize
     }
 }
 
-/// The line that begins at a place of a text; `None` at its end.
+/// The line that begins at an offset of a text; `None` at its end.
 pub(crate) fn line_at(text: &[u8], start: usize) -> Option<LineAt>
     requires { start ≤ length text.now }
     ensures end { IfNone result (drop start text.now ≡ []) }
@@ -66,10 +66,10 @@ pub(crate) fn line_at(text: &[u8], start: usize) -> Option<LineAt>
         return None;
     }
     match rest.find_byte(b'\n') {
-        Some(place) => Some(LineAt {
+        Some(len) => Some(LineAt {
             start,
-            end: start + len_without_cr(&rest[..place]),
-            next: start + place + 1,
+            end: start + len_without_cr(&rest[..len]),
+            next: start + len + 1,
         }),
         None => Some(LineAt {
             start,

@@ -177,7 +177,7 @@ fn push_some(rows: &mut Vec<PlaceRow>, row: Option<PlaceRow>) -> Result<(), Allo
     }
 }
 
-/// The rows of a table of places whose second line begins at a place of a text.
+/// The rows of a table of places whose second line begins at an offset of a text.
 pub(crate) fn read_place_rows(
     alloc: Global,
     columns: &PlacesColumns,

@@ -1,11 +1,10 @@
-//! A table read from its text.
+//! A table, and how it is read from its text.
 
 ghost use Rattle.std.specs.Prelude.{◌≡◌, ◌≤◌, Some, None, length, slice_range, MatchResult};
 ghost use Rattle.std.specs.Option.{option_or};
 ghost use Rattle.vic_table.specs.Columns.{columns_of, first_line_fault};
 ghost use Rattle.vic_table.specs.Lines.{bytes_fault};
-ghost use Rattle.vic_table.specs.Reads.{IsTableOf};
-ghost use Rattle.vic_table.specs.Table.{Refuses};
+ghost use Rattle.vic_table.specs.Table.{IsTableOfText, Refuses};
 ghost use Rattle.vic_table.specs.inner.Faults.{RefusesAt};
 
 use crate::catalogue::Catalogue;
@@ -16,8 +15,14 @@ use crate::items::read_items;
 use crate::lines::{LineAt, bytes_fault, first_start, line_at};
 use crate::place_rows::read_place_rows;
 use crate::places::Places;
-use crate::table::Table;
 use std::alloc::Global;
+
+/// A table, by its columns.
+#[derive(Drop)]
+pub enum Table {
+    Catalogue(Catalogue),
+    Places(Places),
+}
 
 /// The columns that the first line of a text names.
 fn head_columns(alloc: Global, text: &[u8], at: LineAt) -> Result<Columns, TableFault>
@@ -38,7 +43,7 @@ fn head_columns(alloc: Global, text: &[u8], at: LineAt) -> Result<Columns, Table
 /// The table of a complete text: the items of a catalogue, or the rows of a table of places; or the
 /// text's first fault.
 pub fn read_table(text: Vec<u8>) -> Result<Table, TableFault>
-    ensures { MatchResult result (IsTableOf text.items) (Refuses text.items) }
+    ensures { MatchResult result (IsTableOfText text.items) (Refuses text.items) }
 {
     let alloc = *text.allocator();
     let Some(head) = line_at(text.as_slice(), first_start(text.as_slice())) else {

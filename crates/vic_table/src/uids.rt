@@ -2,7 +2,7 @@
 
 ghost use Rattle.std.specs.Prelude.{◌≡◌, ◌≤◌, length};
 ghost use Rattle.std.specs.List.{position_or_len};
-ghost use Rattle.vic_table.specs.Contents.{is_digit_of_uid, is_no_hex_digit, hex_uid, spelled_uid, has_uid, tells_uid};
+ghost use Rattle.vic_table.specs.Contents.{is_no_filler, is_no_hex_digit, hex_uid, spelled_uid, has_uid, tells_uid};
 
 use crate::contents::is_space;
 use arrayvec::ArrayVec;
@@ -12,8 +12,8 @@ use vic_frame::Uid;
 const UID_DIGITS: usize = 16;
 
 /// Whether a byte isn't one that may stand among the digits of a UID.
-fn is_digit_of_uid(byte: u8) -> bool
-    ensures { result ≡ is_digit_of_uid byte }
+fn is_no_filler(byte: u8) -> bool
+    ensures { result ≡ is_no_filler byte }
 {
     !(is_space(byte) || byte == b':' || byte == b'-')
 }
@@ -35,7 +35,7 @@ pub fn spelled_uid(cell: &[u8]) -> Option<Uid>
 {
     let mut digits: ArrayVec<u8, UID_DIGITS> = ArrayVec::new();
     for byte in cell {
-        if is_digit_of_uid(*byte) && digits.try_push(*byte).is_err() {
+        if is_no_filler(*byte) && digits.try_push(*byte).is_err() {
             return None;
         }
     }

@@ -1,10 +1,10 @@
-//! A reader in pieces, and a writer that fails.
+//! A source of pieces, and a sink that fails.
 
 ghost use Rattle.std.specs.Prelude.{◌<◌, false, Some};
 
 use vic_log::{DeviceFault, History, Sink, Source};
 
-/// A source that returns at most `piece` bytes per call.
+/// A source that returns at most `piece` bytes for each read.
 #[derive(Drop)]
 pub struct Pieces<'a> {
     bytes: &'a [u8],
@@ -57,7 +57,7 @@ impl<'a> Source for Pieces<'a> {
     }
 }
 
-/// A sink that accepts one byte per call, until it has accepted so many.
+/// A sink that accepts one byte for each write, and fails once it has `room` bytes.
 #[derive(Drop)]
 pub struct OneByOne {
     taken: Vec<u8>,
@@ -67,7 +67,7 @@ pub struct OneByOne {
 }
 
 impl OneByOne {
-    /// A sink that has accepted these bytes.
+    /// A sink that has accepted these bytes, and has room for so many in all.
     pub fn new(taken: Vec<u8>, room: usize) -> OneByOne {
         OneByOne {
             taken,

@@ -12,20 +12,20 @@ use vic_log::{Log, LogReader, WriteFault, read_log, write_log};
 const SESSION: &[u8] =
     b"vicinity-log 3\nT 060100CD09\nS\nR 0000A1000000000104E06745\nH 0000B2000000000104E0CF94\nC\nD\nN\nS\nS\nS\nS\nS\nS\nS\nS\nS\nS\nF\nU E0040100000000A1\nU E0040100000000B2\n";
 
-/// Reads the text in pieces as the log that it is.
-fn is_read(rt: &impl Abort, alloc: Global, piece: usize, whole: &Log) -> Result<(), Fail>
+/// Reads the text in pieces, as the log that it is in one.
+fn is_read(rt: &impl Abort, alloc: Global, piece: usize, expected: &Log) -> Result<(), Fail>
     requires { 0 < piece }
 {
     let log = LogReader::new(alloc).read_all(&mut Pieces::new(SESSION, piece))?;
-    assert!(rt; log.lines() == whole.lines(), "{piece}");
+    assert!(rt; log.lines() == expected.lines(), "{piece}");
     Ok(())
 }
 
 #[test]
 fn logs_in_pieces(rt: HostRuntime) -> Result<(), Fail> {
-    let whole = read_log(rt.alloc(), SESSION)?;
+    let expected = read_log(rt.alloc(), SESSION)?;
     for piece in 1..300usize {
-        is_read(&rt, rt.alloc(), piece, &whole)?;
+        is_read(&rt, rt.alloc(), piece, &expected)?;
     }
     Ok(())
 }

@@ -24,16 +24,11 @@ UB1 = U E0040100000000B1
 UZ = U E000000000000000
 UY = U E080000000000000";
 
-/// How many times the line of a name occurs.
+/// How many times the line of a name occurs: `S4` is four silent slots.
 fn count_of(name: &str) -> usize {
-    match name {
-        "S4" => 4,
-        "S10" => 10,
-        "S12" => 12,
-        "S13" => 13,
-        "S14" => 14,
-        "S16" => 16,
-        _ => 1,
+    match name.strip_prefix("S") {
+        Some(digits) => digits.parse().unwrap_or(1),
+        None => 1,
     }
 }
 

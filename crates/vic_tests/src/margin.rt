@@ -1,4 +1,4 @@
-//! In how many slots the UIDs of a log were overlooked that were overlooked least often.
+//! Margins of logs and of UIDs, and what the cautious readings of complete lists leave open.
 
 use crate::logs::text_of;
 use crate::values::{A, B, mask, uid};

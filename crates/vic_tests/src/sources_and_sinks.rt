@@ -1,5 +1,5 @@
-//! Sources and sinks over std readers and writers: each call makes one of theirs, also a failing
-//! one.
+//! Sources and sinks over std readers and writers: each call makes one of theirs, also where that
+//! fails.
 
 use std::io;
 use std::io::{Read, Write};
@@ -46,9 +46,9 @@ impl Write for Counted {
     }
 }
 
-fn reads_once(rt: &impl Abort, fails: bool, buf: &mut [u8], given: Result<usize, DeviceFault>) {
+fn reads_once(rt: &impl Abort, fails: bool, buf: &mut [u8], expected: Result<usize, DeviceFault>) {
     let mut source = FromRead::new(Counted::new(fails));
-    assert!(rt; source.read(buf) == given);
+    assert!(rt; source.read(buf) == expected);
     assert!(rt; source.into_inner().calls == 1);
 }
 
@@ -59,9 +59,9 @@ fn one_read_of_std_for_each(rt: HostRuntime) {
     reads_once(&rt, true, &mut [0; 4], Err(DeviceFault));
 }
 
-fn writes_once(rt: &impl Abort, fails: bool, text: &[u8], given: Result<usize, DeviceFault>) {
+fn writes_once(rt: &impl Abort, fails: bool, text: &[u8], expected: Result<usize, DeviceFault>) {
     let mut sink = ToWrite::new(Counted::new(fails));
-    assert!(rt; sink.write(text) == given);
+    assert!(rt; sink.write(text) == expected);
     assert!(rt; sink.into_inner().calls == 1);
 }
 
@@ -72,9 +72,9 @@ fn one_write_of_std_for_each(rt: HostRuntime) {
     writes_once(&rt, true, b"text", Err(DeviceFault));
 }
 
-fn flushes_once(rt: &impl Abort, fails: bool, given: Result<(), DeviceFault>) {
+fn flushes_once(rt: &impl Abort, fails: bool, expected: Result<(), DeviceFault>) {
     let mut sink = ToWrite::new(Counted::new(fails));
-    assert!(rt; sink.flush() == given);
+    assert!(rt; sink.flush() == expected);
     assert!(rt; sink.into_inner().calls == 1);
 }
 

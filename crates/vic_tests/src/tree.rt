@@ -1,4 +1,4 @@
-//! Large sets of open UIDs: as a tree, and as ranges of keys.
+//! Large sets of open UIDs: as a tree of `vic_sets`, and as ranges of keys.
 
 use crate::values::{Z, mask, uid};
 use std::process::Abort;
@@ -10,21 +10,26 @@ use vic_tree::{KeyRange, OpenSet, RangeSet};
 
 /// The next of a fixed sequence of numbers that look random.
 fn next(state: u64) -> u64 {
-    let left = state ^ (state << 13);
-    let right = left ^ (left >> 7);
-    right ^ (right << 17)
+    let once = state ^ (state << 13);
+    let twice = once ^ (once >> 7);
+    twice ^ (twice << 17)
 }
 
-/// A mask of 12 to 51 bits that holds the UID.
-fn mask_round(uid: Uid, number: u64) -> Result<Mask, Fail> {
+/// A mask of 12 to 51 bits that has the UID.
+fn mask_around(uid: Uid, number: u64) -> Result<Mask, Fail> {
     let len = 12 + u8::try_from(number % 40).unwrap_or(0);
     mask(len, uid.number() % (1 << len))
 }
 
 /// Settles a mask around a UID, which stays as it was.
-fn settle_round(rt: &impl Abort, set: &mut MaskTree, inside: Uid, number: u64) -> Result<(), Fail> {
+fn settle_around(
+    rt: &impl Abort,
+    set: &mut MaskTree,
+    inside: Uid,
+    number: u64,
+) -> Result<(), Fail> {
     let open = set.has(inside);
-    set.settle(&mask_round(inside, number)?, &[inside])?;
+    set.settle(&mask_around(inside, number)?, &[inside])?;
     assert!(rt; set.has(inside) == open);
     Ok(())
 }
@@ -37,7 +42,7 @@ fn tree_settles_many_masks(rt: HostRuntime) -> Result<(), Fail> {
     for _ in 0..100_000 {
         let first = next(state);
         state = next(first);
-        settle_round(&rt, &mut set, uid(Z + first % (1 << UID_BITS))?, state)?;
+        settle_around(&rt, &mut set, uid(Z + first % (1 << UID_BITS))?, state)?;
     }
     Ok(())
 }

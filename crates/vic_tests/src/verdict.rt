@@ -2,11 +2,10 @@
 //! program what `judge` says about them, over ranges of keys.
 
 use crate::logs::text_of;
-use arrayvec::ArrayVec;
 use std::alloc::{AllocError, Global};
 use std::process::Abort;
 use std::test::Fail;
-use vic_answer::{Answer, answer_line};
+use vic_answer::{Answer, check_text};
 use vic_frame::{Mask, Uid};
 use vic_log::read_log;
 use vic_sets::{CellList, MaskTree};
@@ -19,7 +18,7 @@ fn is_judged(rt: &impl Abort, alloc: Global, names: &str, line: &str) -> Result<
     let verdict = judge_with::<CellList>(alloc, &log)?;
     let explained = explain_with::<MaskTree>(alloc, &log)?;
     assert!(rt; explained.verdict == verdict, "{names}");
-    let written = answer_line(&Answer::Found(verdict));
+    let written = check_text(&Answer::Found(verdict));
     assert!(rt;
         written.strip_suffix(b"\n") == Some(line.as_bytes()),
         "{names}"
@@ -80,17 +79,13 @@ impl OpenSet for Refusing {
         self.set.has(uid)
     }
 
-    fn up_to_three(&self, mask: &Mask, except: &[Uid]) -> ArrayVec<Uid, 3> {
-        self.set.up_to_three(mask, except)
-    }
-
     fn widest(&self) -> Option<Mask> {
         self.set.widest()
     }
 }
 
 #[test]
-fn a_set_that_wants_memory(rt: HostRuntime) -> Result<(), Fail> {
+fn a_set_that_lacks_memory(rt: HostRuntime) -> Result<(), Fail> {
     let log = read_log(rt.alloc(), b"vicinity-log 1\n")?;
     assert!(&rt; judge_with::<Refusing>(rt.alloc(), &log).is_err());
     assert!(&rt; explain_with::<Refusing>(rt.alloc(), &log).is_err());

@@ -1,53 +1,11 @@
 -- Ranges of keys without some keys.
-use Rattle.vic_tree.proofs.Words.{◌≡◌, ℕ, ◌+◌, ◌-◌, ◌^◌, ◌<◌, ◌≤◌, ◌⊎◌, ◌↔◌, inl, inr, Bool, true, false, List, Option, Some, None, [], IfNone, IfSome, min, refl, sym, ap, subst, ◌∙◌, arith, pow_pos, cases_lt, has, BitMask, IsMask, lies_in, mirror, uid_of, mirror_of_uid, Gathers, AllOpen, IsAtMost, IsWidest, SameUids, without_keys, is_open_in, HoldsMask, IsFirstRun, IsFreeBetween, is_left, nat_tests, is_uid, AllKeysPass, ComesFirstIn, IsFoundBelow, IsFreeInRanges, IsMaskIn, IsWidestBelow}
+use Rattle.vic_tree.proofs.Words.{◌≡◌, ℕ, ◌+◌, ◌-◌, ◌^◌, ◌<◌, ◌≤◌, ◌⊎◌, ◌↔◌, inl, inr, Bool, true, false, List, Option, Some, None, IfNone, IfSome, sym, ap, subst, ◌∙◌, arith, pow_pos, cases_lt, BitMask, IsMask, lies_in, mirror, uid_of, mirror_of_uid, AllOpen, IsAtMost, IsWidest, SameUids, without_keys, is_open_in, HoldsMask, IsFirstRun, is_left, nat_tests, is_uid, AllKeysPass, ComesFirstIn, IsFoundBelow, IsMaskIn, IsWidestBelow}
 use Rattle.vic_tree.proofs.BlockLaws.{key_in_mask, mask_ends}
-use Rattle.vic_tree.proofs.GatheringLaws.{gathers_both, gathers_like}
 use Rattle.vic_tree.proofs.RangeLaws.{inside_is, is_inside}
 
 -- a key that passes lies below another, or in the first run from that one on
 pub in_run : (p : ℕ → Bool) (from x y k : ℕ) → IsFirstRun p from x y → p k ≡ true → k < y + 2 → (k < from) ⊎ ((x ≤ k) × (k ≤ y))
 in_run p from x y k run t lt = grind (arith, nat_tests, run.before k, run.ends)
-
--- a UID is left if it's free
-free_is_left : (rs : List (ℕ × ℕ)) (except : List ℕ) (first last u : ℕ) → IsFreeInRanges rs first last (has except) u → is_left rs [] (mirror u) ≡ true
-free_is_left rs except first last u w = rw w.is_open refl
-
--- the UIDs of a run are gathered
-pub run_gathered : (rs : List (ℕ × ℕ)) (except : List ℕ) (first last from x y to : ℕ) (old out new : List ℕ) → IsFirstRun (is_left rs []) from x y → x ≤ y → to ≡ min y last → first ≤ from
-    → Gathers (λ u. IsFreeInRanges rs first last (has except) u × (mirror u < from)) old out
-    → Gathers (IsFreeBetween x to (has except)) out new
-    → Gathers (λ u. IsFreeInRanges rs first last (has except) u × (mirror u < y + 2)) old new
-run_gathered rs except first last from x y to old out new run forward is low g h =
-    gathers_both
-    (λ u. IsFreeInRanges rs first last (has except) u × (mirror u < from))
-    (IsFreeBetween x to (has except))
-    (λ u. IsFreeInRanges rs first last (has except) u × (mirror u < y + 2))
-    old out new
-    (λ u w. (w.0, let a = run.begins in omega (arith, w.1)))
-    (λ u w.
-    let begins = run.begins in
-    let pass = run.passes (mirror u) in (
-      record { is_uid = w.is_uid; is_open = grind (arith, nat_tests, w.inside, pass); inside = grind (arith, nat_tests, w.inside); free = grind (arith, nat_tests, w.inside, w.free, pass) },
-      grind (arith, nat_tests, w.inside),
-    ))
-    (λ u w. elim (in_run (is_left rs []) from x y (mirror u) run (free_is_left rs except first last u w.0) w.1) [
-      | inl lt ↦ inl (w.0, lt)
-      | inr at ↦ inr (record { is_uid = w.0.is_uid; inside = grind (arith, nat_tests, w.0.inside); free = grind (arith, nat_tests, w.0.free) })
-    ])
-    g h
-
--- all are gathered
-pub all_gathered : (rs : List (ℕ × ℕ)) (except : List ℕ) (first last from : ℕ) (old new : List ℕ) → ((k : ℕ) → from ≤ k → k ≤ last → is_left rs [] k ≡ false)
-    → Gathers (λ u. IsFreeInRanges rs first last (has except) u × (mirror u < from)) old new
-    → Gathers (IsFreeInRanges rs first last (has except)) old new
-all_gathered rs except first last from old new none g =
-    gathers_like
-    (λ u. IsFreeInRanges rs first last (has except) u × (mirror u < from))
-    (IsFreeInRanges rs first last (has except))
-    old new
-    (λ u w. w.0)
-    (λ u w. let t = free_is_left rs except first last u w in (w, grind (arith, nat_tests, none (mirror u), w.inside)))
-    g
 
 -- ---- the widest mask
 

@@ -33,7 +33,7 @@ pub use Rattle.vic_tree.specs.OpenMasks.{AreAll, AreFirst, ComesBefore, IsOpenMa
 pub use Rattle.vic_tree.specs.OpenSet.{AllOpen, AreKeys, IsAtMost, IsWidest, SameUids, has_key, without_keys}
 pub use Rattle.vic_tree.specs.Ranges.{AreRanges, AreRangesFrom, in_ranges, is_between, is_open_in, is_outside}
 pub use Rattle.vic_tree.specs.inner.KeptMasks.{Adds, AreKept, IsMaximalAt, IsMaximalIn, IsOpenBelow, IsOpenBlock, Keeps}
-pub use Rattle.vic_tree.specs.inner.Ranges.{AllKeysPass, ComesFirstIn, HoldsBlock, HoldsMask, IsFirstRun, IsFoundBelow, IsFreeBetween, IsFreeInRanges, IsMaskIn, IsWidestBelow, PassFrom, block_size, is_left}
+pub use Rattle.vic_tree.specs.inner.Ranges.{AllKeysPass, ComesFirstIn, HoldsBlock, HoldsMask, IsFirstRun, IsFoundBelow, IsMaskIn, IsWidestBelow, PassFrom, block_size, is_left}
 pub use Rattle.vic_tree.specs.inner.Stretches.{IsFreeFrom, IsStretch}
 pub use Rattle.vic_tree.specs.Counted.{IsCounted, size_of}
 pub use Rattle.vic_tree.specs.inner.Tallies.{HasMore, IsTallyOf, Tallies}

@@ -1,21 +1,17 @@
-//! Ranges of keys without some keys: as ranges, what is gathered from them, and their widest mask.
+//! Ranges of keys without some keys: as ranges, and their widest mask.
 
 ghost use Rattle.std.specs.Prelude.{◌≡◌, ℕ, false, List, ◌++◌, OnOk, IfSome, IfNone};
-ghost use Rattle.vic_frame.specs.Uids.{has};
-ghost use Rattle.vic_tree.specs.Gathering.{Gathers};
 ghost use Rattle.vic_tree.specs.OpenSet.{IsWidest, SameUids, without_keys};
 ghost use Rattle.vic_tree.specs.Ranges.{AreRanges, in_ranges, is_open_in};
-ghost use Rattle.vic_tree.specs.inner.Ranges.{IsFreeInRanges, is_left};
+ghost use Rattle.vic_tree.specs.inner.Ranges.{is_left};
 
 use crate::blocks::widest_with;
-use crate::gather_keys::gather_keys;
 use crate::key_range::KeyRange;
 use crate::ranges::Ranges;
 use crate::runs::Runs;
-use crate::sorted_keys::{KeysAhead, SortedKeys};
-use arrayvec::ArrayVec;
+use crate::sorted_keys::SortedKeys;
 use std::alloc::AllocError;
-use vic_frame::{Mask, Uid};
+use vic_frame::Mask;
 
 /// Appends what is left of some ranges when some keys are removed, as ranges.
 pub(crate) fn push_left(
@@ -31,28 +27,6 @@ pub(crate) fn push_left(
         out.push(run)?;
     }
     Ok(())
-}
-
-/// Appends the UIDs whose keys are in one range and in some ranges, and that aren't exceptions,
-/// until there are three.
-pub(crate) fn gather_left(
-    out: &mut ArrayVec<Uid, 3>,
-    except: &[Uid],
-    ranges: &Ranges<'_>,
-    range: KeyRange,
-)
-    ensures { Gathers (IsFreeInRanges ranges.now range.0 range.1 (has except.now))
-        out.old.items out.new.items }
-{
-    let first = range.first();
-    let mut left = Runs::new(first, &ranges.from_key(first), KeysAhead::none());
-    while let Some(run) = left.next_run() {
-        if range.last() < run.first() || out.is_full() {
-            return;
-        }
-        let both = KeyRange::new(run.first(), run.last().min(range.last()));
-        gather_keys(out, except, both);
-    }
 }
 
 /// The widest mask in what is left of some ranges when some keys are removed.

@@ -10,7 +10,7 @@ ghost use Rattle.vic_tree.specs.OpenSet.{SameUids, without_keys};
 ghost use Rattle.vic_tree.specs.OpenMasks.{AreAll, AreFirst, IsOpenMask};
 ghost use Rattle.vic_tree.specs.Ranges.{AreRanges, is_between, is_open_in};
 
-use crate::besides::{gather_left, push_left, widest_left};
+use crate::besides::{push_left, widest_left};
 use crate::counted::{CountedMasks, counted_left};
 use crate::key_range::KeyRange;
 use crate::open_masks::{MAX_OPEN_MASKS, OpenMasks, all_open_masks_left, open_masks_left};
@@ -18,7 +18,6 @@ use crate::open_set::OpenSet;
 use crate::ranges::{Ranges, complement, complement_in_order, is_in_first, skip_to};
 use crate::sorted_keys::SortedKeys;
 use crate::spaced_keys::{SpacedKeys, open_masks_between};
-use arrayvec::ArrayVec;
 use std::alloc::{AllocError, Global};
 use std::marker::Model;
 use vic_frame::low_bits_first::{KeyBlock, key};
@@ -76,15 +75,6 @@ impl OpenSet for RangeSet {
 
     fn has(&self, uid: Uid) -> bool {
         self.in_order().has(key(uid).number())
-    }
-
-    fn up_to_three(&self, mask: &Mask, except: &[Uid]) -> ArrayVec<Uid, 3> {
-        let mut found = ArrayVec::new();
-        if let Some(block) = KeyBlock::of(mask) {
-            let range = KeyRange::new(block.first.number(), block.last().number());
-            gather_left(&mut found, except, &self.in_order(), range);
-        }
-        found
     }
 
     fn widest(&self) -> Option<Mask> {

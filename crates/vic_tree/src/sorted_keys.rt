@@ -88,13 +88,6 @@ impl<'a> Model for KeysAhead<'a> {
 }
 
 impl<'a> KeysAhead<'a> {
-    /// No keys.
-    pub(crate) fn none() -> KeysAhead<'a>
-        ensures { result ≡ [] }
-    {
-        KeysAhead { keys: &[] }
-    }
-
     /// Leaves the keys below `from` behind; if at most one is below it, that one may stay ahead.
     /// The index doubles until the key there isn't below `from`; halving then finds how many are.
     fn pass_to(&mut self, from: u64)

@@ -9,7 +9,7 @@ use Rattle.vic_answer.specs.declared.task.Task.{Task}
 use Rattle.vic_answer.specs.declared.task.Task.TheVariants.{Check, Simulate, Explain, Report, Margin, Frame, Spell}
 use Rattle.vic_words.specs.Words.{Ask, HasFile, is_end_of_options, operands_of, spelled_words}
 use Rattle.vic_words.specs.inner.Commands.{commands}
-use Rattle.vic_words.specs.inner.Given.{FileAsks, RowsAsk, SubcommandAsks, TaskAsks, clap_words, wants_end, words_found}
+use Rattle.vic_words.specs.inner.Found.{FileAsks, RowsAsk, SubcommandAsks, TaskAsks, clap_words, lacks_end_of_options, words_found}
 use Rattle.vic_words.specs.declared.asked.Asked.{Asked}
 use Rattle.vic_words.specs.declared.asked.Asked.TheVariants.{Task as OneTask, Json, Files}
 use Rattle.vic_words.specs.declared.asked.FilesCommand.TheVariants.{Reconcile, Survey, Collection, JsonCollection}
@@ -35,9 +35,9 @@ pub record Heads (program w : Text) (clapped : List Text) : Type 0 where
   pub is : clapped ≡ program ∷ w ∷ rest
 
 heads : (program w : Text) (words : List Text) → Heads program w (clap_words (program ∷ w ∷ words))
-heads program w words = go (wants_end (program ∷ w ∷ words)) refl
+heads program w words = go (lacks_end_of_options (program ∷ w ∷ words)) refl
   where
-    go : (t : Bool) → wants_end (program ∷ w ∷ words) ≡ t → Heads program w (clap_words (program ∷ w ∷ words))
+    go : (t : Bool) → lacks_end_of_options (program ∷ w ∷ words) ≡ t → Heads program w (clap_words (program ∷ w ∷ words))
     go true e = record { rest = codes "--" ∷ words; is = rw e refl }
     go false e = record { rest = words; is = rw e refl }
 

@@ -6,7 +6,7 @@ use Rattle.clap.specs.Simple.{Shape}
 use Rattle.clap.specs.Lexer.{usize_max}
 use Rattle.clap.specs.Faults.{level_fault}
 use Rattle.vic_words.specs.Words.{HasFile, after_operand, is_end_of_options, is_option, operands_of}
-use Rattle.vic_words.specs.inner.Given.{words_found}
+use Rattle.vic_words.specs.inner.Found.{words_found}
 use Rattle.vic_words.proofs.Leaf.{AllUtf8, Level, Levels, level_is}
 use Rattle.vic_words.proofs.Shapes as shapes
 use Rattle.vic_words.proofs.Shapes.{one_shape, words_shape}

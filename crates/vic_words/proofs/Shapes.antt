@@ -8,13 +8,13 @@ use Rattle.clap.specs.Lexer.{usize_max}
 use Rattle.clap.specs.Kinds.{or_else, range_kinds, values_kinds}
 use Rattle.clap.specs.Faults.{defaults_fault}
 use Rattle.clap.specs.declared.builder.value_parser.ValueParser.TheVariants as vp
-use Rattle.vic_words.specs.inner.Commands.{program, with_operand, with_words}
-use Rattle.vic_words.proofs.Leaf.{IsLeaf, end_fault, has_trailing, operands_fault, operands_rows, put, put_fault, start}
+use Rattle.vic_words.specs.inner.Commands.{program, operand_command, words_command}
+use Rattle.vic_words.proofs.Leaf.{IsLeaf, end_fault, has_trailing, operands_fault, operands_rows, put, put_fault}
 
 -- ---- a command with one operand
 
 abbrev pub one_shape : Text → Text → Bool → Shape
-one_shape name id required = built_leaf (inherited program.top (with_operand name id required).top)
+one_shape name id required = built_leaf (inherited program.top (operand_command name id required).top)
 
 no_trailing : (r : Rule) (t : Bool) → r.trailing_var_arg ≡ false → has_trailing (if t then Some r else None) ≡ false
 no_trailing r true e = e
@@ -64,7 +64,7 @@ values_fit [] = refl
 values_fit (v ∷ vs) = values_fit vs
 
 abbrev pub words_shape : Text → Shape
-words_shape name = built_leaf (inherited program.top (with_words name).top)
+words_shape name = built_leaf (inherited program.top (words_command name).top)
 
 pub words_is_leaf : (name : Text) → IsLeaf (words_shape name)
 words_is_leaf name = record { long = λ n. refl; short = λ x. refl; plain = λ p. no_trailing _ (1 == p) refl }

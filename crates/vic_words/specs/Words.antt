@@ -7,6 +7,7 @@ use Rattle.vic_words.specs.declared.asked.Asked.TheVariants.{Task as OneTask, Js
 use Rattle.vic_words.specs.declared.asked.FilesCommand.{FilesCommand}
 use Rattle.vic_words.specs.declared.asked.FilesCommand.TheVariants.{Reconcile, Survey, Collection, JsonCollection}
 
+-- a word, or a name, as bytes
 abbrev pub Text : Type 0
 Text = List ℕ
 

@@ -1,3 +1,3 @@
 -- Definitions that private contracts alone cite.
 pub mod Commands
-pub mod Given
+pub mod Found

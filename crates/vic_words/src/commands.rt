@@ -13,8 +13,8 @@ pub(crate) fn commands<'a>(alloc: Global) -> Result<Command<'a>, AllocError>
     ensures { IfOk result (λ c. app_of c ≡ declared.commands) }
 {
     up_to_collection(alloc)?
-        .subcommand(with_words(alloc, "json-collection")?)?
-        .subcommand(with_words(alloc, "spell")?)
+        .subcommand(words_command(alloc, "json-collection")?)?
+        .subcommand(words_command(alloc, "spell")?)
 }
 
 /// The program with its commands up to `collection`.
@@ -22,8 +22,8 @@ fn up_to_collection<'a>(alloc: Global) -> Result<Command<'a>, AllocError>
     ensures { IfOk result (λ c. app_of c ≡ declared.up_to_collection) }
 {
     up_to_reconcile(alloc)?
-        .subcommand(with_words(alloc, "survey")?)?
-        .subcommand(with_words(alloc, "collection")?)
+        .subcommand(words_command(alloc, "survey")?)?
+        .subcommand(words_command(alloc, "collection")?)
 }
 
 /// The program with its commands up to `reconcile`.
@@ -31,8 +31,8 @@ fn up_to_reconcile<'a>(alloc: Global) -> Result<Command<'a>, AllocError>
     ensures { IfOk result (λ c. app_of c ≡ declared.up_to_reconcile) }
 {
     up_to_json(alloc)?
-        .subcommand(with_operand(alloc, "frame", "hex", true)?)?
-        .subcommand(with_words(alloc, "reconcile")?)
+        .subcommand(operand_command(alloc, "frame", "hex", true)?)?
+        .subcommand(words_command(alloc, "reconcile")?)
 }
 
 /// The program with its commands over a file or standard input.
@@ -42,35 +42,35 @@ fn up_to_json<'a>(alloc: Global) -> Result<Command<'a>, AllocError>
     let program = Command::new(alloc, "vicinity")
         .disable_help_flag(true)
         .disable_help_subcommand(true);
-    let program = with_file(alloc, program, "check")?;
-    let program = with_file(alloc, program, "simulate")?;
-    let program = with_file(alloc, program, "explain")?;
-    let program = with_file(alloc, program, "report")?;
-    let program = with_file(alloc, program, "margin")?;
-    with_file(alloc, program, "json")
+    let program = with_file_command(alloc, program, "check")?;
+    let program = with_file_command(alloc, program, "simulate")?;
+    let program = with_file_command(alloc, program, "explain")?;
+    let program = with_file_command(alloc, program, "report")?;
+    let program = with_file_command(alloc, program, "margin")?;
+    with_file_command(alloc, program, "json")
 }
 
 /// The program with one more command, over a file or standard input.
-fn with_file<'a>(
+fn with_file_command<'a>(
     alloc: Global,
     program: Command<'a>,
     name: &'a str,
 ) -> Result<Command<'a>, AllocError>
     ensures shape { IfOk result (λ c.
-        app_of c ≡ declared.with_file (app_of program.entry) name.now) }
+        app_of c ≡ declared.with_file_command (app_of program.entry) name.now) }
 {
-    program.subcommand(with_operand(alloc, name, "file", false)?)
+    program.subcommand(operand_command(alloc, name, "file", false)?)
 }
 
 /// A command with one operand.
-fn with_operand<'a>(
+fn operand_command<'a>(
     alloc: Global,
     name: &'a str,
     operand: &'a str,
     required: bool,
 ) -> Result<Command<'a>, AllocError>
     ensures shape { IfOk result (λ c.
-        app_of c ≡ declared.with_operand name.now operand.now required) }
+        app_of c ≡ declared.operand_command name.now operand.now required) }
     ensures local { IfOk result (λ c. (fields_of c).has_globals ≡ false) }
 {
     let operand = Arg::new(alloc, operand)
@@ -80,8 +80,8 @@ fn with_operand<'a>(
 }
 
 /// A command with one or more words.
-fn with_words<'a>(alloc: Global, name: &'a str) -> Result<Command<'a>, AllocError>
-    ensures shape { IfOk result (λ c. app_of c ≡ declared.with_words name.now) }
+fn words_command<'a>(alloc: Global, name: &'a str) -> Result<Command<'a>, AllocError>
+    ensures shape { IfOk result (λ c. app_of c ≡ declared.words_command name.now) }
     ensures local { IfOk result (λ c. (fields_of c).has_globals ≡ false) }
 {
     Command::new(alloc, name).arg(operands(alloc))
@@ -89,7 +89,7 @@ fn with_words<'a>(alloc: Global, name: &'a str) -> Result<Command<'a>, AllocErro
 
 /// One operand or more.
 fn operands<'a>(alloc: Global) -> Arg<'a>
-    ensures rule { rule_of result ≡ declared.several }
+    ensures rule { rule_of result ≡ declared.operands }
     ensures local { result.global ≡ false }
 {
     Arg::new(alloc, "words")

@@ -3,7 +3,7 @@
 ghost use Rattle.std.specs.Prelude.{◌≡◌, map, option_map, string_bytes, IfErr, IfOk, MatchOption};
 ghost use Rattle.clap.specs.Words.{first_of, found_of, rows_of, subcommand_rows_of};
 ghost use Rattle.vic_words.specs.Words.{files_name};
-ghost use Rattle.vic_words.specs.inner.Given.{FileAsks, RowsAsk, SubcommandAsks, TaskAsks, words_found};
+ghost use Rattle.vic_words.specs.inner.Found.{FileAsks, RowsAsk, SubcommandAsks, TaskAsks, words_found};
 ghost use Rattle.vic_words.specs.declared.asked.WordsFault.TheVariants.{Usage};
 
 use crate::asked::{Asked, FilesCommand, WordsFault};
@@ -35,7 +35,7 @@ fn asked_for(alloc: Global, name: &str, given: &ArgMatches<'_>) -> Result<Asked,
     if name == "json" {
         return Ok(Asked::Json(operand(alloc, given, "file")?));
     }
-    Ok(Asked::Task(asked_of_text(alloc, name, given)?))
+    Ok(Asked::Task(task_of(alloc, name, given)?))
 }
 
 /// The command with a name, if it takes one file after the other.
@@ -54,7 +54,7 @@ fn files_command(name: &str) -> Option<FilesCommand>
 }
 
 /// What a command with one text asks for, by its name and what it was given.
-fn asked_of_text(alloc: Global, name: &str, given: &ArgMatches<'_>) -> Result<Task, WordsFault>
+fn task_of(alloc: Global, name: &str, given: &ArgMatches<'_>) -> Result<Task, WordsFault>
     ensures asked { IfOk result (TaskAsks name.now (rows_of (found_of given.now))) }
     ensures usage { IfErr result (λ e. e ≡ Usage
         → (task : _) → TaskAsks name.now (rows_of (found_of given.now)) task → ⊥) }
@@ -65,12 +65,12 @@ fn asked_of_text(alloc: Global, name: &str, given: &ArgMatches<'_>) -> Result<Ta
             None => Err(WordsFault::Usage),
         },
         "spell" => Ok(Task::Spell(given_words(alloc, given)?)),
-        _ => asked_of_file(name, operand(alloc, given, "file")?),
+        _ => file_task_of(name, operand(alloc, given, "file")?),
     }
 }
 
 /// What a command with a file asks for, by its name.
-fn asked_of_file(name: &str, file: Option<String>) -> Result<Task, WordsFault>
+fn file_task_of(name: &str, file: Option<String>) -> Result<Task, WordsFault>
     ensures asked { IfOk result (FileAsks name.now (option_map string_bytes file)) }
     ensures usage { IfErr result (λ _. (task : _)
         → FileAsks name.now (option_map string_bytes file) task → ⊥) }

@@ -5,7 +5,7 @@ ghost use Rattle.std.specs.Prelude.{◌≡◌, ◌≢◌, [], map, string_bytes,
 ghost use Rattle.clap.specs.Words.{fault_of, subcommand_of, subcommand_rows_of};
 ghost use Rattle.vic_words.specs.Words.{Ask};
 ghost use Rattle.vic_words.specs.inner.Commands as declared;
-ghost use Rattle.vic_words.specs.inner.Given.{clap_words, wants_end};
+ghost use Rattle.vic_words.specs.inner.Found.{clap_words, lacks_end_of_options};
 ghost use Rattle.vic_words.specs.declared.asked.WordsFault.TheVariants.{Usage};
 
 mod asked;
@@ -45,15 +45,15 @@ fn for_clap(alloc: Global, mut words: Vec<String>) -> Result<Vec<String>, AllocE
     ensures { IfOk result (λ given.
         map string_bytes given.items ≡ clap_words (map string_bytes words.items)) }
 {
-    if wants_end(words.as_slice()) {
+    if lacks_end_of_options(words.as_slice()) {
         words.insert(2, String::from_str(alloc, "--")?)?;
     }
     Ok(words)
 }
 
 /// Whether the words are of `spell`, and no `--` stands before the first.
-fn wants_end(words: &[String]) -> bool
-    ensures { result ≡ wants_end (map string_bytes words.now) }
+fn lacks_end_of_options(words: &[String]) -> bool
+    ensures { result ≡ lacks_end_of_options (map string_bytes words.now) }
 {
     match words {
         [] | [_] => false,

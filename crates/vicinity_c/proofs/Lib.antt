@@ -3,4 +3,5 @@ mod CrcBytes
 mod ListedLines
 pub mod Beside
 mod NamesInLines
+mod Asked
 mod TextsInBytes

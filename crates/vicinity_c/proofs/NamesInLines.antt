@@ -1,5 +1,5 @@
 -- Names cut off from lines.
-use Rattle.std.proofs.Common.{◌≡◌, ◌≢◌, ◌<◌, ◌+◌, ◌∙◌, ℕ, zero, suc, List, [], ◌∷◌, Option, Some, None, MatchOption, length, map, ◌++◌, get_or, arith, sym, refl, ap, append_assoc}
+use Rattle.std.proofs.Common.{◌≡◌, ◌≢◌, ◌∙◌, ℕ, zero, suc, List, [], ◌∷◌, Option, Some, None, MatchOption, length, ◌++◌, arith, sym, refl, ap, append_assoc}
 use Rattle.std.proofs.lemmas.Grind.{flat_map-append}
 use Rattle.std.proofs.lemmas.List.Elements.{All-append, All-from_get_or}
 use Rattle.std.proofs.lemmas.List.{length-append, append-nil}
@@ -80,6 +80,39 @@ AreCut-more bytes rest names x split utf8 cut =
       };
       others = λ all h. let rest' = cut.others all h in AreNames-behind rest x rest'.0 split rest'.1;
     }
+
+-- ---- bytes have names in one way
+
+-- behind the first LF of the same bytes is the same
+behind_first : (m n r s : List ℕ) → All (λ b. b ≢ lf) m → All (λ b. b ≢ lf) n → m ++ (lf ∷ r) ≡ n ++ (lf ∷ s) → r ≡ s
+behind_first [] [] r s h k e = cc e
+behind_first [] (y ∷ n) r s h k e = absurd (k 0 0 (omega arith) (let d : y ≡ lf = cc e in d))
+behind_first (x ∷ m) [] r s h k e = absurd (h 0 0 (omega arith) (let d : x ≡ lf = cc e in d))
+behind_first (x ∷ m) (y ∷ n) r s h k e = behind_first m n r s (All-behind (λ b. b ≢ lf) x m h) (All-behind (λ b. b ≢ lf) y n k) (let d : m ++ (lf ∷ r) ≡ n ++ (lf ∷ s) = cc e in d)
+
+abbrev lines_of : List (List ℕ) → List ℕ
+lines_of names = flat_map (λ name. name ++ lf ∷ []) names
+
+one_line : (m : List ℕ) (ms : List (List ℕ)) → lines_of (m ∷ ms) ≡ m ++ (lf ∷ lines_of ms)
+one_line m ms = append_assoc m (lf ∷ []) (lines_of ms)
+
+some_lines : (m : List ℕ) (ms : List (List ℕ)) → [] ≡ lines_of (m ∷ ms) → ⊥
+some_lines m ms e =
+    let l : 0 ≡ length (m ++ (lf ∷ lines_of ms)) = ap length (e ∙ one_line m ms) in
+    omega (arith, l, length-append m (lf ∷ lines_of ms))
+
+same_count : (ms ns : List (List ℕ)) → All (λ name. All (λ b. b ≢ lf) name) ms → All (λ name. All (λ b. b ≢ lf) name) ns → lines_of ms ≡ lines_of ns → length ms ≡ length ns
+same_count [] [] h k e = refl
+same_count [] (n ∷ ns) h k e = absurd (some_lines n ns e)
+same_count (m ∷ ms) [] h k e = absurd (some_lines m ms (sym e))
+same_count (m ∷ ms) (n ∷ ns) h k e =
+    let same : m ++ (lf ∷ lines_of ms) ≡ n ++ (lf ∷ lines_of ns) = sym (one_line m ms) ∙ (e ∙ one_line n ns) in
+    let rest = behind_first m n (lines_of ms) (lines_of ns) (h 0 [] (omega arith)) (k 0 [] (omega arith)) same in
+    ap suc (same_count ms ns (All-behind (λ name. All (λ b. b ≢ lf) name) m ms h) (All-behind (λ name. All (λ b. b ≢ lf) name) n ns k) rest)
+
+-- the same bytes have as many names
+pub AreNames-as_many : (bytes : List ℕ) (ms ns : List (List ℕ)) → AreNames bytes ms → AreNames bytes ns → length ms ≡ length ns
+AreNames-as_many bytes ms ns h k = same_count ms ns h.single k.single (sym h.lines ∙ k.lines)
 
 -- nothing is cut off at first
 pub AreCut-none : (bytes : List ℕ) → AreCut bytes [] bytes

@@ -1,7 +1,7 @@
 -- Texts cut off from bytes.
-use Rattle.std.proofs.Common.{◌≡◌, ◌<◌, ◌≤◌, ◌∙◌, ◌+◌, suc, ℕ, List, [], ◌∷◌, length, map, ◌++◌, take, drop, get_or, arith, ap, refl, sym, add-one, append_assoc}
-use Rattle.std.proofs.Math.Seq.{drop-append_seam, drop-cons, take-suc, drop-length}
-use Rattle.std.proofs.lemmas.List.{length-append, drop-drop, map-append, take-append-drop}
+use Rattle.std.proofs.Common.{◌≡◌, ◌<◌, ◌∙◌, ◌+◌, suc, ℕ, List, [], ◌∷◌, length, ◌++◌, take, drop, get_or, arith, ap, add-one, append_assoc}
+use Rattle.std.proofs.Math.Seq.{drop-append_seam, drop-cons, drop-length}
+use Rattle.std.proofs.lemmas.List.{length-append, drop-drop, take-append-drop}
 use Rattle.std.proofs.lemmas.Grind.{flat_map-append}
 use Rattle.std.specs.List.{flat_map}
 use Rattle.vicinity_c.specs.Run.{AreTexts}

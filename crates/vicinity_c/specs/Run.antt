@@ -33,28 +33,35 @@ pub record AreTexts (bytes : List ℕ) (lengths : List ℕ) (texts : List (List 
   pub measured : map length texts ≡ lengths
 
 -- what a caller hands over: texts, and a name for each
-pub record AreGiven (names texts lengths : List ℕ) (ns ts : List (List ℕ)) : Type 0 where
-  pub are_names : AreNames names ns
-  pub are_texts : AreTexts texts lengths ts
-  pub as_many : length ns ≡ length ts
+pub record AreGiven (name_bytes text_bytes lengths : List ℕ) (names texts : List (List ℕ))
+    : Type 0 where
+  pub are_names : AreNames name_bytes names
+  pub are_texts : AreTexts text_bytes lengths texts
+  pub as_many : length names ≡ length texts
 
 -- this command has the number, and it is given these texts with these names
-pub record IsAsked (number : ℕ) (names texts lengths : List ℕ) (command : Command)
-    (ns ts : List (List ℕ)) : Type 0 where
+pub record IsAsked (number : ℕ) (name_bytes text_bytes lengths : List ℕ) (command : Command)
+    (names texts : List (List ℕ)) : Type 0 where
   pub named : command_of number ≡ Some command
-  pub given : AreGiven names texts lengths ns ts
+  pub given : AreGiven name_bytes text_bytes lengths names texts
 
--- this is the status of what the command writes for what is given, it has `count` bytes, and this
--- is what becomes of the buffer for it
-pub record IsRunInto (number : ℕ) (names texts lengths : List ℕ) (code count : ℕ)
+-- no command has the number, or the names or the lengths don't fit
+abbrev pub AsksNothing : (number : ℕ) (name_bytes text_bytes lengths : List ℕ) → Type 0
+AsksNothing number name_bytes text_bytes lengths =
+    (command : Command) (names texts : List (List ℕ))
+    → IsAsked number name_bytes text_bytes lengths command names texts → ⊥
+
+-- `code` is the status of what the command writes for what is given; the text that it writes has
+-- `count` bytes, and is returned in the buffer
+pub record IsRunInto (number : ℕ) (name_bytes text_bytes lengths : List ℕ) (code count : ℕ)
     (room room' : List ℕ) : Type 0 where
   pub command : Command
-  pub ns : List (List ℕ)
-  pub ts : List (List ℕ)
-  pub asked : IsAsked number names texts lengths command ns ts
+  pub names : List (List ℕ)
+  pub texts : List (List ℕ)
+  pub asked : IsAsked number name_bytes text_bytes lengths command names texts
   pub answer : List ℕ
   pub status : Status
-  pub right : Writes command ns ts answer status
+  pub right : Writes command names texts answer status
   pub code_is : code ≡ status_code status
   pub returned : IsReturned answer room room' count
 
@@ -62,21 +69,22 @@ pub record IsRunInto (number : ℕ) (names texts lengths : List ℕ) (code count
 abbrev pub usage_line : List ℕ
 usage_line = codes "vicinity: usage\n"
 
--- what is given isn't what the command takes, this line has `count` bytes, and this is what becomes
--- of the buffer for it
-pub record IsUsageInto (number : ℕ) (names texts lengths : List ℕ) (count : ℕ)
+-- the command writes nothing for what is given, since it doesn't take that; the line of a usage
+-- error has `count` bytes, and is returned in the buffer
+pub record IsUsageInto (number : ℕ) (name_bytes text_bytes lengths : List ℕ) (count : ℕ)
     (room room' : List ℕ) : Type 0 where
   pub command : Command
-  pub ns : List (List ℕ)
-  pub ts : List (List ℕ)
-  pub asked : IsAsked number names texts lengths command ns ts
-  pub nothing : (answer : List ℕ) (status : Status) → Writes command ns ts answer status → ⊥
+  pub names : List (List ℕ)
+  pub texts : List (List ℕ)
+  pub asked : IsAsked number name_bytes text_bytes lengths command names texts
+  pub nothing : (answer : List ℕ) (status : Status) → Writes command names texts answer status → ⊥
   pub returned : IsReturned usage_line room room' count
 
--- what the command writes for what is given
-pub record IsOutputFor (number : ℕ) (names texts lengths : List ℕ) (output : Output) : Type 0 where
+-- `output` is what the command writes for what is given, or that it doesn't take that
+pub record IsOutputFor (number : ℕ) (name_bytes text_bytes lengths : List ℕ) (output : Output)
+    : Type 0 where
   pub command : Command
-  pub ns : List (List ℕ)
-  pub ts : List (List ℕ)
-  pub asked : IsAsked number names texts lengths command ns ts
-  pub right : IsOutputBy (Writes command ns ts) output
+  pub names : List (List ℕ)
+  pub texts : List (List ℕ)
+  pub asked : IsAsked number name_bytes text_bytes lengths command names texts
+  pub right : IsOutputBy (Writes command names texts) output

@@ -5,8 +5,8 @@ use Rattle.vic_numbers.specs.Buffers.{IsReturned}
 use Rattle.vic_answer.specs.SimulateText.{IsSimulationOf}
 use Rattle.vic_answer.specs.Status.{status_code}
 
--- this is the status of what `simulate` answers to a text, the answer has `count` bytes, and this
--- is what becomes of the buffer for it
+-- `code` is the status of what `simulate` writes for a text; the text that it writes has `count`
+-- bytes, and is returned in the buffer
 pub record IsSimulatedInto (text : List ℕ) (code count : ℕ) (room room' : List ℕ) : Type 0 where
   pub answer : List ℕ
   pub status : Status

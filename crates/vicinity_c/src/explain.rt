@@ -6,7 +6,7 @@ ghost use Rattle.vic_numbers.specs.ExplainedNumbers.{AreExplainedNumbersFor};
 ghost use Rattle.vic_numbers.specs.Numbers.{AreNumbersFor, no_answer};
 
 use std::alloc::Global;
-use vic_answer::{answer_of, answer_text, uids_of};
+use vic_answer::{answer_of, find_in_text, uids_of};
 use vic_numbers::{NO_ANSWER, VicinityAnswer, copy_uids, numbers_of};
 
 /// Judges the log that a text spells, as `vicinity_check` does, and returns the population that
@@ -30,7 +30,7 @@ pub extern "C" fn vicinity_explain(
         → (needed.new ≡ 0) × (population.new ≡ population.old) }
     ensures status { result ≡ answer.new.status }
 {
-    let Ok(explained) = answer_text(alloc, text) else {
+    let Ok(explained) = find_in_text(alloc, text) else {
         *answer = NO_ANSWER;
         *needed = 0;
         return NO_ANSWER.status;

@@ -8,7 +8,7 @@ ghost use Rattle.vicinity_c.specs.Beside.{ListsBeside, with_listed};
 
 use crate::listed::with_listed;
 use std::alloc::Global;
-use vic_answer::{answer_of, answer_text};
+use vic_answer::{answer_of, find_in_text};
 use vic_numbers::{NO_ANSWER, NO_WEAKEST, VicinityAnswer, VicinityWeakest, numbers_of, weakest_of};
 
 /// Judges the log that a text spells, as `vicinity_check` does, and returns its margin, complete or
@@ -30,7 +30,7 @@ pub extern "C" fn vicinity_margin(
     ensures no_weakest { answer.new.kind ≡ 0 → weakest.new ≡ spec.no_weakest }
     ensures status { result ≡ answer.new.status }
 {
-    let Ok(measured) = answer_text(alloc, text) else {
+    let Ok(measured) = find_in_text(alloc, text) else {
         return refuse(answer, weakest);
     };
     *weakest = weakest_of(&measured);

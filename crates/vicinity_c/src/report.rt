@@ -6,7 +6,7 @@ ghost use Rattle.vic_numbers.specs.FindingNumbers.{AreReportedNumbersFor};
 ghost use Rattle.vic_numbers.specs.Numbers.{AreNumbersFor, no_answer};
 
 use std::alloc::Global;
-use vic_answer::{answer_of, answer_text, findings_of};
+use vic_answer::{answer_of, find_in_text, findings_of};
 use vic_numbers::{NO_ANSWER, VicinityAnswer, VicinityFinding, copy_findings, numbers_of};
 
 /// Judges the log that a text spells, as `vicinity_check` does, and returns every finding: the
@@ -30,7 +30,7 @@ pub extern "C" fn vicinity_report(
         → (needed.new ≡ 0) × (findings.new ≡ findings.old) }
     ensures status { result ≡ answer.new.status }
 {
-    let Ok(reported) = answer_text(alloc, text) else {
+    let Ok(reported) = find_in_text(alloc, text) else {
         return refuse(answer, needed);
     };
     let Ok(list) = findings_of(alloc, &reported) else {

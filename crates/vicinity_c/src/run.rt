@@ -1,6 +1,6 @@
 //! What the program writes, for C.
 
-ghost use Rattle.std.specs.Prelude.{◌≡◌, ◌≢◌, ⊤, IfOk, MatchOption};
+ghost use Rattle.std.specs.Prelude.{◌≡◌, ◌≢◌, IfOk, MatchOption};
 ghost use Rattle.vicinity_c.specs.Run as spec;
 
 use crate::given::{names_in, texts_in};
@@ -32,8 +32,7 @@ fn command_of(number: u32) -> Option<Command>
     }
 }
 
-/// What the program writes for what C hands over; nothing if no command has the number, or the
-/// names or the lengths don't fit.
+/// What the program writes for what C hands over; `None` if that asks for nothing.
 fn output(
     alloc: Global,
     number: u32,
@@ -41,7 +40,8 @@ fn output(
     texts: &[u8],
     lengths: &[usize],
 ) -> Result<Option<Output>, AllocError>
-    ensures { IfOk result (λ output. MatchOption output ⊤
+    ensures { IfOk result (λ output. MatchOption output
+        (spec.AsksNothing number names.now texts.now lengths.now)
         (spec.IsOutputFor number names.now texts.now lengths.now)) }
 {
     let Some(command) = command_of(number) else {

@@ -1,6 +1,4 @@
-"""Which of some tables is the catalogue, and what isn't sure of it though nothing is refused."""
-from __future__ import annotations
-
+"""Which of some tables is the catalogue, and what may be wrong with it though it isn't refused."""
 import codecs
 import csv
 import json
@@ -11,7 +9,7 @@ from typing import Iterable, Iterator, Sequence
 
 from .._process import shown
 from .._sentences import SENTENCES
-from ..sessions.words import count
+from ..logs.words import count
 
 #: The columns of a catalogue that has places, and names that look like that of the second.
 UID, PLACE, NEARLY = "uid", "place", ("place", "places")
@@ -19,7 +17,7 @@ UID, PLACE, NEARLY = "uid", "place", ("place", "places")
 SEPARATORS = ",;\t"
 #: What is no letter, digit or sign of a name.
 OTHER = re.compile(r"[\W_]+")
-SAID = SENTENCES["catalogues"]
+DOUBTS = SENTENCES["catalogues"]
 
 
 def columns_of(table: bytes) -> Sequence[str]:
@@ -40,10 +38,10 @@ def doubts(tables: Iterable[tuple[str, bytes]]) -> Iterator[str]:
         columns = columns_of(table)
         if columns and not table.endswith(b"\n"):
             lines = count(table.count(b"\n") + 1, "line")
-            yield f"{shown(name)} has {lines}, {SAID['cut']}"
+            yield f"{shown(name)} has {lines}, {DOUBTS['cut']}"
         for number, column in enumerate(columns, 1) if PLACE not in map(_name, columns) else ():
             if OTHER.sub("", unicodedata.normalize("NFKC", column)).lower() in NEARLY:
-                yield f"{shown(name)}: {SAID['noPlaces']} " + SAID["almost"].format(
+                yield f"{shown(name)}: {DOUBTS['noPlaces']} " + DOUBTS["almost"].format(
                     number, json.dumps(column))
 
 

@@ -1,8 +1,5 @@
 """`collection`: many logs against one catalogue. The library writes what it is; here a log is
 surveyed as soon as it is read, so that none is kept."""
-from __future__ import annotations
-
-import argparse
 import codecs
 import json
 import os
@@ -12,13 +9,14 @@ from typing import Any, Iterator, Sequence
 
 from .._native import VERSION, library
 from .._objects import NOT_COMPLETE, Object, too_small
-from .._process import NoAnswer, complain, names_of, read, read_log, shown, tell_terminal, write
+from .._process import (Arguments, NoAnswer, complain, names_of, read, read_log, shown,
+                        tell_terminal, write)
 from .._run import Written, run
 from .._sentences import advice
 from ..pages.document import document, page_object
-from ..sessions.findings import Told
-from ..sessions.headline import MAY_BE_HERE, READ_AGAIN, STILL_COMPLETE
-from ..sessions.words import count, listing
+from ..logs.findings import JudgedLog
+from ..logs.headline import MAY_BE_HERE, READ_AGAIN, STILL_COMPLETE
+from ..logs.words import count, listing
 from .catalogue import columns_of, doubts
 from .summary import summary
 
@@ -42,31 +40,33 @@ MOST_TEXT, MOST_NAMES = 4_000_000, 20
 Files = Sequence[tuple[str, bytes]]
 
 
-def collection(asked: argparse.Namespace) -> int:
+def collection(arguments: Arguments) -> int:
     """Writes what logs say of a catalogue, and returns the status."""
     library()
-    files = _read(names_of(asked), asked.jobs)
-    said, told = _written(WRITES[asked.form], files), dict[str, Any]()
-    is_measured, is_shown = said.status == 0 < asked.margin, asked.form == "lines" and os.isatty(2)
-    if asked.form == "page" or is_measured or is_shown:
-        written = said.text if OBJECT == WRITES[asked.form] else _written(OBJECT, files).text
-        told = json.loads(written) if written.startswith(b"{") else told
-    less = _less(told, asked.margin) if is_measured else ""
+    form, wanted = arguments.form, arguments.margin
+    files = _read(names_of(arguments), arguments.jobs)
+    written, answer = _written(WRITES[form], files), dict[str, Any]()
+    is_measured = wanted > 0 and written.status == 0
+    is_shown = form == "lines" and os.isatty(2)
+    if form == "page" or is_measured or is_shown:
+        text = written.text if OBJECT == WRITES[form] else _written(OBJECT, files).text
+        answer = json.loads(text) if text.startswith(b"{") else answer
+    less = _less(answer, wanted) if is_measured else ""
     if less:
-        told.update(status=NOT_COMPLETE, wanted=asked.margin)
-    if asked.form == "page" and told:
-        write(_page(files, told))
-    elif asked.form == "json" and less:
-        write([json.dumps(told, ensure_ascii=False, separators=(",", ":")), "\n"])
+        answer.update(status=NOT_COMPLETE, wanted=wanted)
+    if form == "page" and answer:
+        write(_page(files, answer))
+    elif form == "json" and less:
+        write([json.dumps(answer, ensure_ascii=False, separators=(",", ":")), "\n"])
     else:
-        write([f"{less}\n" if less and asked.form == "lines" else said.text])
-    if less and asked.form == "csv":
+        write([f"{less}\n" if less and form == "lines" else written.text])
+    if less and form == "csv":
         complain(less)
     tables = _tables(files)
-    for doubt in [*doubts(tables), *[NO_LOGS] * (len(tables) == len(files))]:
+    for doubt in [*doubts(tables), *([NO_LOGS] if len(tables) == len(files) else [])]:
         complain(doubt)
-    tell_terminal(f"{note}\n" for note in _notes(said, told, is_shown))
-    return NOT_COMPLETE if less else said.status
+    tell_terminal(f"{note}\n" for note in _notes(written, answer, is_shown))
+    return NOT_COMPLETE if less else written.status
 
 
 def _read(names: Sequence[str], jobs: int) -> Files:
@@ -103,67 +103,77 @@ def _written(command: str, files: Files) -> Written:
         raise NoAnswer(WANTED) from None
 
 
-def _less(told: Object, wanted: int) -> str:
+def _less(answer: Object, wanted: int) -> str:
     """The line of a complete collection whose margin is less than was wanted."""
-    least = told.get("margin")
+    least = answer.get("margin")
     if least is not None and least["margin"] >= wanted:
         return ""
-    where = f" in {shown(told['logs'][least['log']]['name'])}" if least else ""
+    where = f" in {shown(answer['logs'][least['log']]['name'])}" if least else ""
     return too_small(least, wanted, where)
 
 
-def _page(files: Files, told: Object) -> Iterator[str]:
-    """One HTML file that draws the object, with the texts of logs, those first that have to be
-    counted again."""
-    surveys, room = dict(files), MOST_TEXT
-    for log in sorted(told["logs"], key=lambda it: it["field"] == "possible" and not it["open"]):
+def _page(files: Files, found: Object) -> Iterator[str]:
+    """One HTML file that draws the object, with when each log's file was changed, and the texts of
+    logs, those first that have to be counted again."""
+    surveys, room, logs = dict(files), MOST_TEXT, {log["name"] for log in found["logs"]}
+    # of a log that is no file the oldest text of surveys may be the one that has it
+    ages = [age for name, text in files if text.startswith(SURVEYS) and name not in logs
+            for age in _changed(name)]
+    for log in sorted(found["logs"], key=lambda it: it["field"] == "possible" and not it["open"]):
         name, text = log["name"], b""
         if os.path.isfile(name) and name in surveys:
             text = read_log(name)
             if _survey(name, text) != surveys[name]:
                 raise NoAnswer(f"{shown(name)} has changed since it was read first")
             log["sha256"] = sha256(text).hexdigest()
+        log.update([("changed", age) for age in _changed(name) or sorted(ages)[:1]])
         room -= len(text)
         if text and room >= 0:
-            log["object"] = page_object(shown(os.path.basename(name)), Told(text))
+            log["object"] = page_object(shown(os.path.basename(name)), JudgedLog(text))
     tables = _tables(files)
     name = shown(os.path.basename(next(name for name, text in tables if columns_of(text))))
-    told.update(version=VERSION, file=name, files=[
+    found.update(version=VERSION, file=name, files=[
         {"file": name, "sha256": sha256(text).hexdigest()} for name, text in tables])
     lines = _written("reconcile", files).text.decode()
-    answer = _less(told, told["wanted"]) if "wanted" in told else told["answer"]
-    return document(f"{name}: {answer}", [json.dumps(told)], lines.splitlines())
+    answer = _less(found, found["wanted"]) if "wanted" in found else found["answer"]
+    return document(f"{name}: {answer}", [json.dumps(found)], lines.splitlines())
+
+
+def _changed(name: str) -> list[int]:
+    """When a file was changed, as a page has it; of what is no file nothing is known."""
+    return [os.stat(name).st_mtime_ns // 1_000_000] if os.path.isfile(name) else []
 
 
 def _tables(files: Files) -> Files:
     return [file for file in files if not file[1].startswith(SURVEYS)]
 
 
-def _notes(said: Written, told: Object, is_shown: bool) -> Iterator[str]:
+def _notes(written: Written, answer: Object, is_shown: bool) -> Iterator[str]:
     """What a person has to know beside what is written: what the fault of a table means; of
     lines, what a complete answer is said of and how sure it is, or a summary."""
-    if said.text.startswith(b"refused at") and not told:
-        yield " ".join(advice(said.text.decode().rpartition(": ")[2].rstrip("\n"), "tables"))
-    if not is_shown or not told:
+    if written.text.startswith(b"refused at") and not answer:
+        yield " ".join(advice(written.text.decode().rpartition(": ")[2].rstrip("\n"), "tables"))
+    if not is_shown or not answer:
         return
-    if said.status == 0:
+    if written.status == 0:
         yield HEARD
-        yield from _sure(told)
-    names = [log["name"] for log in told["logs"]]
+        yield from _sure(answer)
+    names = [log["name"] for log in answer["logs"]]
     yield from summary([
-        *((it["place"] or "", it["state"]) for it in told["items"] if it["state"] not in DONE),
-        *((names[it["certain_in"][0]], "unexpected") for it in told["unexpected"])])
+        *((item["place"] or "", item["state"]) for item in answer["items"]
+          if item["state"] not in DONE),
+        *((names[tag["certain_in"][0]], "unexpected") for tag in answer["unexpected"])])
 
 
-def _sure(told: Object) -> Iterator[str]:
+def _sure(answer: Object) -> Iterator[str]:
     """How sure a complete answer is."""
-    logs = told["logs"]
-    if "margin" in told:
-        name = shown(logs[told["margin"]["log"]]["name"])
+    logs, least = answer["logs"], answer.get("margin")
+    if least:
+        slots, name = count(least["margin"], "slot"), shown(logs[least["log"]]["name"])
         yield ("Any other tag would have had to be missed in "
-               f"{count(told['margin']['margin'], 'slot')} or more, in the field of {name}.")
+               f"{slots} or more, in the field of {name}.")
     for _, reading, name in READ_AGAIN:
         fields = [shown(log["name"]) for log in logs if log[reading]]
-        more = [count(len(fields) - MOST_NAMES, "other log")] * (len(fields) > MOST_NAMES)
-        where = listing(fields[:MOST_NAMES] + more)
+        others = [count(len(fields) - MOST_NAMES, "other log")] if fields[MOST_NAMES:] else []
+        where = listing(fields[:MOST_NAMES] + others)
         yield f"{name}: {f'{MAY_BE_HERE}, in {where}' if fields else STILL_COMPLETE}"

@@ -1,16 +1,14 @@
 """`compare`: what has changed between two answers of `collection --json`."""
-from __future__ import annotations
-
-import argparse
 import json
 import os
 from collections import defaultdict
+from itertools import zip_longest
 from typing import Any, Callable, Iterator, Mapping, NamedTuple
 
 from .._collections import as_object
 from .._objects import SCHEMA, Object
-from .._process import REFUSED, complain, read, shown, tell_terminal, write
-from ..sessions.headline import MAY_BE_HERE, READ_AGAIN, STILL_COMPLETE
+from .._process import Arguments, REFUSED, complain, read, shown, tell_terminal, write
+from ..logs.headline import MAY_BE_HERE, READ_AGAIN, STILL_COMPLETE
 from .summary import summary
 
 #: The state of an item of the other answer alone.
@@ -34,7 +32,7 @@ class Answer(NamedTuple):
     and in words; and its items. Those of a UID or, without one, with equal cells, are in their
     order."""
 
-    said: Mapping[str, str]
+    statements: Mapping[str, str]
     sure: Mapping[str, tuple[int, str]]
     items: Mapping[str, list[Item]]
 
@@ -45,64 +43,59 @@ class Change(NamedTuple):
     new: Item
 
 
-def compare(asked: argparse.Namespace) -> int:
+def compare(arguments: Arguments) -> int:
     """Writes what has changed, and returns 1 if anything has."""
-    objects = [as_object(read(name)) for name in asked.names]
+    objects = [as_object(read(name)) for name in arguments.names]
     if None in objects:
-        complain(f"{shown(asked.names[objects.index(None)])} "
+        complain(f"{shown(arguments.names[objects.index(None)])} "
                  "isn't an answer as `collection --json` writes it")
         return REFUSED
-    old, new = (_answer(it, _names(objects)) for it in objects if it)
-    said = [(what, old.said.get(what, ""), new.said.get(what, ""))
-            for what in {**old.said, **new.said}]
-    said = [(what, was, now) for what, was, now in said if was != now]
-    said += [(what, was[1], new.sure[what][1]) for what, was in old.sure.items()
-             if what in new.sure and new.sure[what][0] < was[0]]
-    changes = list(_changes(old, new))
-    status = int(bool(said or changes))
-    if asked.form == "json":
+    old, new = (_answer(fields, _names(objects)) for fields in objects if fields)
+    statements, changes = list(_statements(old, new)), list(_changes(old, new))
+    status = int(bool(statements or changes))
+    if arguments.form == "json":
         write([json.dumps({"schema": SCHEMA, "status": status, "said": [
-            {"of": what, "was": was or None, "is": now or None} for what, was, now in said],
+            {"of": what, "was": was or None, "is": now or None} for what, was, now in statements],
             "changes": list(map(_object, changes))}), "\n"])
     else:
         write([*(f"{shown(what)}: {shown(now or 'none')}, was {shown(was or 'none')}\n"
-                 for what, was, now in said), *map(_line, changes)])
+                 for what, was, now in statements), *map(_line, changes)])
         tell_terminal(f"{line}\n" for line in summary(
-            (it.new.place or it.old.place, it.new.state) for it in changes))
+            (change.new.place or change.old.place, change.new.state) for change in changes))
     return status
 
 
 def _names(objects: list[Any]) -> Callable[[str], str]:
     """How a log is named: without its folder, which is often named after the day, if that tells
     the logs of each answer apart."""
-    is_short = all(len({os.path.basename(log["name"]) for log in it["logs"]}) == len(it["logs"])
-                   for it in objects)
+    is_short = all(len({os.path.basename(log["name"]) for log in logs}) == len(logs)
+                   for logs in (fields["logs"] for fields in objects))
     return lambda name: os.path.basename(name) if is_short else name
 
 
-def _answer(told: Object, name: Callable[[str], str]) -> Answer:
-    logs = [name(log["name"]) for log in told["logs"]]
-    said = {"status": str(told["status"]), "answer": told["answer"],
-            "catalogue": "" if told["ended"] else "its last row has no line end",
-            **{f"place {place}": "no log" for place in told["without_log"]},
-            **{f"log {it}": _field(log) for it, log in zip(logs, told["logs"])}}
+def _answer(fields: Object, name_of: Callable[[str], str]) -> Answer:
+    names = [name_of(log["name"]) for log in fields["logs"]]
+    logs = dict(zip(names, fields["logs"]))
+    statements = {"status": str(fields["status"]), "answer": fields["answer"],
+                  "catalogue": "" if fields["ended"] else "its last row has no line end",
+                  **{f"place {place}": "no log" for place in fields["without_log"]},
+                  **{f"log {name}": _field(log) for name, log in logs.items()}}
     items: dict[str, list[Item]] = defaultdict(list)
-    for it in [*told["items"], *told["unexpected"]]:
+    for item in [*fields["items"], *fields["unexpected"]]:
         cells = {column.strip(): cell.strip() for column, cell
-                 in zip(told["columns"], it.get("cells", ())) if cell.strip()}
-        key = it["uid"] or "none " + json.dumps(cells)
-        items[key].append(Item(
-            it.get("state", UNEXPECTED), tuple(logs[log] for log in it["certain_in"]),
-            it.get("place") or "", {column: cell for column, cell in cells.items()
-                                    if column.lower() not in COLUMNS}))
-    return Answer(said, {f"log {it}, {what}": how for it, log in zip(logs, told["logs"])
-                         for what, how in _sure(log)}, items)
+                 in zip(fields["columns"], item.get("cells", ())) if cell.strip()}
+        items[item["uid"] or "none " + json.dumps(cells)].append(Item(
+            item.get("state", UNEXPECTED), tuple(names[log] for log in item["certain_in"]),
+            item.get("place") or "", {column: cell for column, cell in cells.items()
+                                      if column.lower() not in COLUMNS}))
+    return Answer(statements, {f"log {name}, {what}": how for name, log in logs.items()
+                               for what, how in _sure(log)}, items)
 
 
 def _field(log: Object) -> str:
     """What is said of a log."""
-    return "{field}{}{}".format(", not to its end" * bool(log.get("open")),
-                                ", left over" * log["left_over"], **log)
+    return "{field}{}{}".format(", not to its end" if log.get("open") else "",
+                                ", left over" if log["left_over"] else "", **log)
 
 
 def _sure(log: Object) -> Iterator[tuple[str, tuple[int, str]]]:
@@ -114,25 +107,38 @@ def _sure(log: Object) -> Iterator[tuple[str, tuple[int, str]]]:
             yield what.lower(), (holds, STILL_COMPLETE if holds else MAY_BE_HERE)
 
 
+def _statements(old: Answer, new: Answer) -> Iterator[tuple[str, str, str]]:
+    """What has changed beside the items: of what, what was said and what is; and what a log is less
+    sure of."""
+    for what in {**old.statements, **new.statements}:
+        was, now = old.statements.get(what, ""), new.statements.get(what, "")
+        if was != now:
+            yield what, was, now
+    for what, (was_sure, was) in old.sure.items():
+        is_sure, now = new.sure.get(what, (was_sure, was))
+        if is_sure < was_sure:
+            yield what, was, now
+
+
 def _changes(old: Answer, new: Answer) -> Iterator[Change]:
     """Items in another state, or in logs of other names, by their new state and their UIDs."""
-    found = []
+    changes = []
     for key in {**old.items, **new.items}:
-        these, those = old.items.get(key, []), new.items.get(key, [])
-        for at in range(max(len(these), len(those))):
-            was, now = (items[at] if at < len(items) else Item() for items in (these, those))
+        for was, now in zip_longest(old.items.get(key, ()), new.items.get(key, ()),
+                                    fillvalue=Item()):
             has_moved = was.logs and now.logs and not {*was.logs} & {*now.logs}
             if was.state != now.state or has_moved:
-                found.append(Change(key.split(" ")[0], was, now))
-    return iter(sorted(found, key=lambda it: (it.new.state, it.old.state, it.uid)))
+                changes.append(Change(key.split(" ")[0], was, now))
+    return iter(sorted(changes, key=lambda change: (
+        change.new.state, change.old.state, change.uid)))
 
 
 def _line(change: Change) -> str:
     (was, was_in), (now, is_in) = (
-        (it.state, f" in {' and '.join(map(shown, it.logs))}" if it.logs else "")
-        for it in (change.old, change.new))
+        (item.state, f" in {' and '.join(map(shown, item.logs))}" if item.logs else "")
+        for item in (change.old, change.new))
     cells = ", ".join((change.new.cells or change.old.cells).values())
-    return f"{now} {change.uid}{is_in}, was {was}{was_in}{': ' * bool(cells)}{shown(cells)}\n"
+    return f"{now} {change.uid}{is_in}, was {was}{was_in}{': ' if cells else ''}{shown(cells)}\n"
 
 
 def _object(change: Change) -> dict[str, object]:

@@ -1,15 +1,12 @@
 """`misread`: a true log as a reader would have written it that misses replies, reads strong ones
 over others, or hears noise. Its author's software is tested against wrong answers with it."""
-from __future__ import annotations
-
-import argparse
 import random
 from collections import defaultdict
 from io import BytesIO
 from typing import Iterable, Iterator, Mapping, NamedTuple, Optional, Sequence
 
 from .._calls import check, simulate
-from .._process import REFUSED, read_log, write
+from .._process import Arguments, REFUSED, read_log, write
 from ..frames import HEADER_LINE, parse_uid, read_response, write_line, write_response
 
 OUTCOMES = frozenset(b"SCRDHN")
@@ -39,10 +36,10 @@ class Reader(NamedTuple):
         return write_line("C" if heard else "S")
 
 
-def misread(asked: argparse.Namespace) -> int:
+def misread(arguments: Arguments) -> int:
     """Writes what a reader would have written, and returns 0;
     of a text that is refused the refusal, and 3."""
-    text = read_log(asked.names[0])
+    text = read_log(arguments.names[0])
     answer, lines = check(text), [line.rstrip(b"\n") + b"\n" for line in BytesIO(text)]
     requests = b"".join(line for line in lines if line[0] not in OUTCOMES and line[:1] != b"U")
     made = simulate(requests)
@@ -50,8 +47,8 @@ def misread(asked: argparse.Namespace) -> int:
         write([f"{answer}\n" if answer.status == REFUSED else made.text])
         return REFUSED
     uids = [parse_uid(line[2:].decode()) for line in lines if line[:1] == b"U"]
-    reader = Reader(asked.capture, asked.miss, asked.noise,
-                    text.startswith(HEADER_LINE.rstrip()), random.Random(asked.seed))
+    reader = Reader(arguments.capture, arguments.miss, arguments.noise,
+                    text.startswith(HEADER_LINE.rstrip()), random.Random(arguments.seed))
     write(_written(lines, _answering(requests, uids), reader))
     return 0
 
@@ -67,12 +64,12 @@ def _slots(lines: Iterable[bytes]) -> Iterator[tuple[bytes, Optional[Place]]]:
 
 def _answering(requests: bytes, uids: Sequence[int]) -> Mapping[Place, list[int]]:
     """Which tags answer in each slot. The library says of each tag alone where it does."""
-    found: dict[Place, list[int]] = defaultdict(list)
+    answering: dict[Place, list[int]] = defaultdict(list)
     for uid in uids:
         for line, place in _slots(simulate(requests + write_line("U", uid=uid)).text.splitlines()):
             if place and line[:1] == b"R":
-                found[place].append(uid)
-    return found
+                answering[place].append(uid)
+    return answering
 
 
 def _written(lines: Sequence[bytes], answering: Mapping[Place, list[int]],

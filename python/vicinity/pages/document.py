@@ -1,7 +1,5 @@
 """A page: the one file that web/ makes, with what it draws in it,
 and plain text for whom no script draws it."""
-from __future__ import annotations
-
 import json
 import runpy
 from hashlib import sha256
@@ -12,8 +10,8 @@ from typing import Iterable, Iterator
 from .._answers import Answer
 from .._native import VERSION
 from .._objects import Object, of_file
-from ..sessions.findings import Told
-from ..sessions.show import show
+from ..logs.findings import JudgedLog
+from ..logs.show import show
 
 HERE = Path(__file__).resolve().parent
 #: The page as a package has it, and what makes it in the repository.
@@ -22,11 +20,11 @@ MADE, BUILD = HERE / "page.html", HERE / "../../../web/build"
 
 def template() -> str:
     """The page without what it draws."""
-    made: str = MADE.read_text("utf-8") if MADE.exists() else runpy.run_path(str(BUILD))["record"]()
-    return made
+    return str(MADE.read_text("utf-8") if MADE.exists() else
+               runpy.run_path(str(BUILD))["record"]())
 
 
-def document(title: str, said: Iterable[str], plain: Iterable[str]) -> Iterator[str]:
+def document(title: str, pieces: Iterable[str], plain: Iterable[str]) -> Iterator[str]:
     """The page of an object, which comes as pieces of JSON, and of lines of text."""
     head, _, rest = template().partition("{{title}}")
     before, _, rest = rest.partition("{{plain}}")
@@ -34,20 +32,19 @@ def document(title: str, said: Iterable[str], plain: Iterable[str]) -> Iterator[
     yield head + escape(title) + before
     yield from (f"{escape(line)}\n" for line in plain)
     yield between
-    yield from (piece.replace("<", "\\u003c") for piece in said)
+    yield from (piece.replace("<", "\\u003c") for piece in pieces)
     yield tail
 
 
 def of_log(text: bytes, name: str) -> tuple[Answer, Iterator[str]]:
     """The answer to a log, and the parts of its page."""
-    told = Told(text)
-    said = json.dumps(page_object(name, told))
-    return told.answer, document(f"{told.answer}: {name}", [said], show(told))
+    log = JudgedLog(text)
+    pieces = [json.dumps(page_object(name, log))]
+    return log.answer, document(f"{log.answer}: {name}", pieces, show(log))
 
 
-def page_object(name: str, told: Told) -> Object:
+def page_object(name: str, log: JudgedLog) -> Object:
     """All that a page draws of a log: its object, and what only who opens it knows."""
-    session = told.session
-    return {**of_file(name, told.said), "version": VERSION,
-            "sha256": sha256(session.text).hexdigest(),
-            "text": session.until_refused.decode("utf-8", "replace")}
+    return {**of_file(name, log.object), "version": VERSION,
+            "sha256": sha256(log.rows.text).hexdigest(),
+            "text": log.rows.until_refused.decode("utf-8", "replace")}

@@ -1,5 +1,6 @@
 -- Texts that are written in pieces: some bytes wait until there are enough of them for a write.
-use Rattle.std.specs.Prelude.{◌≡◌, ℕ, Bool, true, ⊤, List, ◌++◌, Option, Some, Result, OnOk, OnErr, IfErr}
+use Rattle.std.specs.Prelude.{◌≡◌, ℕ, true, ⊤, List, ◌++◌, Option, Some, Result, OnOk, OnErr, IfErr}
+use Rattle.vic_log.specs.declared.sink.Sink.{Ghosts as Sink}
 use Rattle.vic_log.specs.Device.{HasTakenBut, HasTakenPrefix}
 use Rattle.vic_answer.specs.declared.status.RunFault.{RunFault}
 use Rattle.vic_answer.specs.declared.status.RunFault.TheVariants.{Write}
@@ -13,11 +14,11 @@ pub record PushesBehind (taken taken' : Option (List ℕ)) (waiting waiting' tex
 
 -- the same as the sink's writes accepted it and as it reveals it, and how it leaves the sink, which
 -- is untouched if it had failed before
-pub record Pushes {W : Type 0} (written : W → List ℕ) (taken : W → Option (List ℕ))
-    (has_failed : W → Bool) (old new : W)
-    (waiting waiting' text : List ℕ) (result : Result ⊤ RunFault) : Type 0 where
-  pub puts : PushesBehind (Some (written old)) (Some (written new)) waiting waiting' text result
-  pub puts_revealed : PushesBehind (taken old) (taken new) waiting waiting' text result
+pub record Pushes {W : Type 0} (w : Sink W) (sink sink' : W) (waiting waiting' text : List ℕ)
+    (result : Result ⊤ RunFault) : Type 0 where
+  pub puts : PushesBehind (Some (w.written sink)) (Some (w.written sink')) waiting waiting' text
+      result
+  pub puts_revealed : PushesBehind (w.taken sink) (w.taken sink') waiting waiting' text result
   pub fault : IfErr result (λ e. e ≡ Write)
-  pub failed : OnErr result (has_failed new ≡ true)
-  pub untouched : has_failed old ≡ true → new ≡ old
+  pub failed : OnErr result (w.has_failed sink' ≡ true)
+  pub untouched : w.has_failed sink ≡ true → sink' ≡ sink

@@ -1,17 +1,18 @@
--- A map with the items in a state.
-use Rattle.std.specs.Prelude.{◌≡◌, ◌<◌, ℕ, true, is_some, Some, List, slice_get}
-use Rattle.std.specs.BTreeMap.{BTreeMap, get}
-use Rattle.std.specs.Ordering.{nat_cmp}
+-- The items in a state.
+use Rattle.std.specs.Prelude.{◌≡◌, ◌<◌, ℕ, true, Some, List, map, slice_get}
+use Rattle.std.specs.List.{All}
+use Rattle.vic_frame.specs.Uids.{has}
 use Rattle.vic_table.specs.Values.{ItemValue}
+use Rattle.vic_collection.specs.declared.found_items.FoundItem.{FoundItem}
 use Rattle.vic_collection.specs.declared.state.State.{State}
+use Rattle.vic_collection.specs.Collections.{CollectionValue}
+use Rattle.vic_collection.specs.Findings.{IsFoundIn}
+use Rattle.vic_collection.specs.States.{state_of}
 
--- the map has the UIDs of those of the first n items that are in this state, each with the position
--- of such an item
-pub record AreAllIn (items : List ItemValue) (states : List State) (state : State) (n : ℕ)
-    (map : BTreeMap ℕ ℕ) : Type 0 where
-  pub found : (u k : ℕ) → get nat_cmp map u ≡ Some k
-      → (item : ItemValue) × (slice_get items k ≡ Some item) × (item.uid ≡ Some u)
-      × (slice_get states k ≡ Some state)
-  pub all : (k : ℕ) (item : ItemValue) (u : ℕ) → k < n → slice_get items k ≡ Some item
-      → item.uid ≡ Some u → slice_get states k ≡ Some state
-      → is_some (get nat_cmp map u) ≡ true
+-- these are in this state, and have the UIDs of those of the first n items that are
+pub record AreAllIn (c : CollectionValue) (state : State) (n : ℕ) (found : List FoundItem)
+    : Type 0 where
+  pub each : All (IsFoundIn c state) found
+  pub all : (k : ℕ) (item : ItemValue) (u : ℕ) → k < n
+      → slice_get c.catalogue.items k ≡ Some item → item.uid ≡ Some u → state_of c item ≡ state
+      → has (map (λ f. f.uid) found) u ≡ true

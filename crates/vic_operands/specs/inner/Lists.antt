@@ -11,8 +11,8 @@ use Rattle.vic_operands.specs.declared.gathered.Gathered.{Gathered}
 use Rattle.vic_operands.specs.declared.gathered.Gathered.TheVariants as gathered
 use Rattle.vic_operands.specs.declared.operand.FileFault.{FileFault}
 use Rattle.vic_operands.specs.declared.operand.FileFault.TheVariants.{Line, Memory}
-use Rattle.vic_operands.specs.declared.reconcile_operands.Expecting.{Expecting}
-use Rattle.vic_operands.specs.declared.reconcile_operands.Expecting.TheVariants.{Nothing, Unnamed, Refused, Listed, Collected}
+use Rattle.vic_operands.specs.declared.reconcile_operands.ReconcileState.{ReconcileState}
+use Rattle.vic_operands.specs.declared.reconcile_operands.ReconcileState.TheVariants.{Nothing, Unnamed, Refused, Listed, Collected}
 
 -- why a list isn't read
 abbrev pub RefusesList : List ℕ → FileFault → Type 0
@@ -39,11 +39,12 @@ pub record BeginsWithNoList (files : List File) : Type 0 where
   pub split : files ≡ first ∷ others
   pub begins : is_list first.text ≡ false
 
-abbrev pub HasExpected : List File → Expecting → Type 0
-HasExpected files Nothing = files ≡ []
-HasExpected files Unnamed = AreNamed files → ⊥
-HasExpected files (Refused r) = IsBehindList files (gathered.Refused r)
-HasExpected files (Listed l) =
+abbrev pub HasTakenToReconcileBy : List File → ReconcileState → Type 0
+HasTakenToReconcileBy files Nothing = files ≡ []
+HasTakenToReconcileBy files Unnamed = AreNamed files → ⊥
+HasTakenToReconcileBy files (Refused r) = IsBehindList files (gathered.Refused r)
+HasTakenToReconcileBy files (Listed l) =
     IsBehindList files (gathered.Collection
     (record { catalogue = l.catalogue; rows = None; surveys = l.surveys.items }))
-HasExpected files (Collected operands) = BeginsWithNoList files × HasTakenBy files operands.state
+HasTakenToReconcileBy files (Collected operands) =
+    BeginsWithNoList files × HasTakenBy files operands.state

@@ -7,15 +7,15 @@ use Rattle.std.specs.Ordering.{nat_cmp}
 use Rattle.vic_frame.specs.Masks.{lies_in}
 use Rattle.vic_frame.specs.Uids.{IsUid, has}
 use Rattle.vic_survey.specs.Surveys.{SurveyValue}
-use Rattle.vic_survey.specs.declared.survey.Field.{Field}
-use Rattle.vic_survey.specs.declared.survey.Field.TheVariants.{Refused, Impossible, Possible}
+use Rattle.vic_survey.specs.declared.survey.SurveyedField.{SurveyedField}
+use Rattle.vic_survey.specs.declared.survey.SurveyedField.TheVariants.{Refused, Impossible, Possible}
 use Rattle.vic_collection.specs.Collections.{CollectionValue}
 use Rattle.vic_collection.specs.declared.found_items.FoundItem.{FoundItem}
 use Rattle.vic_result.specs.NamesAt.{name_at}
 use Rattle.vic_result.specs.ResultLines.{first_possible}
 
 -- the UID lies in an open mask, or the log tells nothing
-abbrev pub leaves_open_by : Field → ℕ → Bool
+abbrev pub leaves_open_by : SurveyedField → ℕ → Bool
 leaves_open_by (Possible s) u = list_any (λ m. lies_in m u) s.«open»
 leaves_open_by (Refused n fault) u = true
 leaves_open_by (Impossible n) u = true

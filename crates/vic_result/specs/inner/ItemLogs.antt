@@ -1,10 +1,11 @@
 -- The logs of the UID of an item.
 use Rattle.std.specs.Prelude.{◌≡◌, ℕ, true, List}
 use Rattle.vic_frame.specs.Uids.{IsUid}
+use Rattle.vic_collection.specs.declared.logs_by_uid.LogOfUid.{LogOfUid}
 use Rattle.vic_collection.specs.Collections.{CollectionValue, is_named, logs_in, possible_logs}
 
--- a list has the logs in which UIDs are possible and not certain, for each that is of an item or
+-- rows have the logs in which UIDs are possible and not certain, for each that is of an item or
 -- certain
-abbrev pub ArePossibleLogs : CollectionValue → List (ℕ × List ℕ) → Type 0
-ArePossibleLogs c entries = (u : ℕ) → IsUid u → is_named c u ≡ true
-    → logs_in entries u ≡ possible_logs c u
+abbrev pub ArePossibleLogs : CollectionValue → List LogOfUid → Type 0
+ArePossibleLogs c rows = (u : ℕ) → IsUid u → is_named c u ≡ true
+    → logs_in rows u ≡ possible_logs c u

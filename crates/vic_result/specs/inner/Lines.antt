@@ -2,9 +2,7 @@
 use Rattle.std.specs.Prelude.{◌≡◌, ℕ, Option, List, ◌++◌}
 use Rattle.vic_frame.specs.Masks.{BitMask}
 use Rattle.vic_collection.specs.Collections.{CollectionValue}
-use Rattle.vic_collection.specs.declared.answer.CollectionAnswer.{CollectionAnswer}
-use Rattle.vic_collection.specs.declared.findings.Findings.{Findings}
-use Rattle.vic_result.specs.ResultLines.{AreFindingLines, AreUnsettledLines}
+use Rattle.vic_result.specs.ResultLines.{AreUnsettledLines}
 
 -- what is unsettled was written
 abbrev pub AddsUnsettled : CollectionValue → Option BitMask → List ℕ → List ℕ → Type 0

@@ -4,7 +4,7 @@ use Rattle.std.specs.List.{flat_map}
 use Rattle.vic_frame.specs.Masks.{BitMask}
 use Rattle.vic_report.specs.declared.shown.ShownUid.{ShownUid}
 use Rattle.vic_survey.specs.Names.{IsName}
-use Rattle.vic_survey.specs.Surveys.{SurveyValue, AreSurveys, IsSeen, IsSurvey}
+use Rattle.vic_survey.specs.Surveys.{SurveyValue, AreSurveys, AreFactsInRange, IsSurvey}
 use Rattle.vic_survey.specs.SurveyText.{certain_line, open_line, found_text, lines_before, name_line, seal, survey_lines}
 use Rattle.vic_text.specs.Digits.{mask_text}
 use Rattle.vic_survey.specs.declared.begun.Begun.{Begun}
@@ -14,9 +14,9 @@ use Rattle.vic_survey.specs.declared.begun.Part.TheVariants as part
 use Rattle.vic_survey.specs.declared.begun.StepFault.{StepFault}
 use Rattle.vic_survey.specs.declared.begun.StepFault.TheVariants.{Wrong, Memory}
 use Rattle.vic_survey.specs.declared.survey.TheConstants.{MAX_COUNT}
-use Rattle.vic_survey.specs.declared.survey.Field.{Field}
-use Rattle.vic_survey.specs.declared.survey.Field.TheVariants.{Impossible, Possible}
-use Rattle.vic_survey.specs.declared.survey.Seen.{Seen}
+use Rattle.vic_survey.specs.declared.survey.SurveyedField.{SurveyedField}
+use Rattle.vic_survey.specs.declared.survey.SurveyedField.TheVariants.{Impossible, Possible}
+use Rattle.vic_survey.specs.declared.survey.FieldFacts.{FieldFacts}
 use Rattle.vic_survey.specs.inner.Rising.{is_above, is_behind}
 use Rattle.vic_survey.specs.inner.Values.{and_then, or_else, after, number_up_to, line_number_in, mask_in, found_in, certain_in, refused_in, name_in}
 
@@ -42,7 +42,7 @@ found_after words line = and_then (after words line) found_in
 -- ---- what a possible log says, one part more
 
 -- nothing yet
-abbrev pub nothing : Seen
+abbrev pub nothing : FieldFacts
 nothing = record {
   answers = 0;
   certain = [];
@@ -53,31 +53,31 @@ nothing = record {
   deaf = None;
 }
 
-abbrev pub with_answers : Seen → ℕ → Seen
+abbrev pub with_answers : FieldFacts → ℕ → FieldFacts
 with_answers s n = record s { answers = n }
 
-abbrev pub with_certain : Seen → ShownUid → Seen
+abbrev pub with_certain : FieldFacts → ShownUid → FieldFacts
 with_certain s u = record s { certain = s.certain ++ u ∷ [] }
 
-abbrev pub with_open : Seen → BitMask → Seen
+abbrev pub with_open : FieldFacts → BitMask → FieldFacts
 with_open s m = record s { «open» = s.«open» ++ m ∷ [] }
 
-abbrev pub with_margin : Seen → ℕ → Seen
+abbrev pub with_margin : FieldFacts → ℕ → FieldFacts
 with_margin s n = record s { margin = n }
 
-abbrev pub with_weakest : Seen → BitMask → Seen
+abbrev pub with_weakest : FieldFacts → BitMask → FieldFacts
 with_weakest s m = record s { weakest = m }
 
-abbrev pub with_hidden : Seen → Option BitMask → Seen
+abbrev pub with_hidden : FieldFacts → Option BitMask → FieldFacts
 with_hidden s m = record s { hidden = m }
 
-abbrev pub with_deaf : Seen → Option BitMask → Seen
+abbrev pub with_deaf : FieldFacts → Option BitMask → FieldFacts
 with_deaf s m = record s { deaf = m }
 
 -- ---- the lines that follow
 
 -- what a log says that isn't possible
-abbrev pub field_in : List ℕ → Option Field
+abbrev pub field_in : List ℕ → Option SurveyedField
 field_in line = or_else
     (and_then (line_after (codes "impossible at line ") line) (λ n. Some (Impossible n)))
     (and_then (after (codes "refused at line ") line) refused_in)
@@ -93,18 +93,18 @@ abbrev pub certain_after : List ℕ → Option ShownUid
 certain_after line = and_then (after (codes "certain ") line) certain_in
 
 -- one more certain UID; none comes behind an open mask
-abbrev pub more_certain : List ℕ → Seen → List ℕ → Option Begun
+abbrev pub more_certain : List ℕ → FieldFacts → List ℕ → Option Begun
 more_certain name s line = and_then (certain_after line)
     (λ c. if length s.«open» == 0 && is_above s.certain c.uid
     then Some (UpTo name (with_certain s c) part.Lists) else None)
 
 -- one more open mask
-abbrev pub more_open : List ℕ → Seen → List ℕ → Option Begun
+abbrev pub more_open : List ℕ → FieldFacts → List ℕ → Option Begun
 more_open name s line = and_then (mask_after (codes "open ") line)
     (λ m. if is_behind s.«open» m then Some (UpTo name (with_open s m) part.Lists) else None)
 
 -- what a possible log says, one more line
-abbrev pub next_part : List ℕ → Seen → Part → List ℕ → Option Begun
+abbrev pub next_part : List ℕ → FieldFacts → Part → List ℕ → Option Begun
 next_part name s part.Possible line = and_then (count_after (codes "answers ") line)
     (λ n. Some (UpTo name (with_answers s n) part.Lists))
 next_part name s part.Lists line =
@@ -151,12 +151,12 @@ start = record { done = []; begun = None }
 -- ---- the lines that were read
 
 -- how many answers there are, certain UIDs and open masks
-abbrev pub lists_of : Seen → List (List ℕ)
+abbrev pub lists_of : FieldFacts → List (List ℕ)
 lists_of s =
     (codes "answers " ++ decimal s.answers) ∷ map certain_line s.certain ++ map open_line s.«open»
 
 -- what a possible log says, up to a part
-abbrev pub lines_of_part : Seen → Part → List (List ℕ)
+abbrev pub lines_of_part : FieldFacts → Part → List (List ℕ)
 lines_of_part s part.Possible = []
 lines_of_part s part.Lists = lists_of s
 lines_of_part s part.Margin = lists_of s ++ (codes "margin " ++ decimal s.margin) ∷ []
@@ -181,7 +181,7 @@ so_far st = flat_map survey_lines st.done ++ lines_of st.begun
 -- ---- what is known of a state
 
 -- nothing was read yet of the lists, before the number of answers
-abbrev pub IsAt : Part → Seen → Type 0
+abbrev pub IsAt : Part → FieldFacts → Type 0
 IsAt part.Possible s = (s.certain ≡ []) × (s.«open» ≡ [])
 IsAt part.Lists s = ⊤
 IsAt part.Margin s = ⊤
@@ -192,7 +192,7 @@ IsAt part.Hidden s = ⊤
 abbrev pub IsBegun : Option Begun → Type 0
 IsBegun None = ⊤
 IsBegun (Some (Named name)) = IsName name
-IsBegun (Some (UpTo name s p)) = IsName name × IsSeen s × IsAt p s
+IsBegun (Some (UpTo name s p)) = IsName name × AreFactsInRange s × IsAt p s
 IsBegun (Some (Unsealed s)) = IsSurvey s
 
 abbrev pub IsState : State → Type 0

@@ -9,11 +9,11 @@ use Rattle.vic_log.specs.Names.{line_fault_name}
 use Rattle.vic_log.specs.declared.fault.LineFault.{LineFault}
 use Rattle.vic_report.specs.declared.shown.ShownUid.{ShownUid}
 use Rattle.vic_text.specs.Values.{hex_number_in, number_in, value_in}
-use Rattle.vic_survey.specs.declared.faults.TheConstants.{FAULTS}
+use Rattle.vic_survey.specs.declared.fault_names.TheConstants.{FAULTS}
 use Rattle.vic_survey.specs.declared.name.TheConstants.{MAX_NAME_LEN}
 use Rattle.vic_survey.specs.declared.rising.TheConstants.{MAX_LINE_NUMBER}
-use Rattle.vic_survey.specs.declared.survey.Field.{Field}
-use Rattle.vic_survey.specs.declared.survey.Field.TheVariants.{Refused}
+use Rattle.vic_survey.specs.declared.survey.SurveyedField.{SurveyedField}
+use Rattle.vic_survey.specs.declared.survey.SurveyedField.TheVariants.{Refused}
 
 -- the second reading, if there is a first
 abbrev pub and_then : {A B : Type 0} → Option A → (A → Option B) → Option B
@@ -76,7 +76,7 @@ fault_among (f ∷ fs) name =
     if bytes_eq (line_fault_name f) name then Some f else fault_among fs name
 
 -- why a text has no log, after the words
-abbrev pub refused_in : List ℕ → Option Field
+abbrev pub refused_in : List ℕ → Option SurveyedField
 refused_in w = and_then (parted (byte ":") w) (λ p. and_then (line_number_in p.0) (λ n.
     and_then (after (codes " ") p.1) (λ name. and_then (fault_among FAULTS name)
     (λ f. Some (Refused n f)))))

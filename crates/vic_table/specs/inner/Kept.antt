@@ -1,4 +1,4 @@
--- Items as they are kept: with places in the text, and with all names of places in one piece.
+-- Items as they are kept: each with the offsets of its row, and with all places in one piece.
 use Rattle.std.specs.Prelude.{ℕ, ◌≤◌, Bool, false, Option, Some, None, List, [], ◌∷◌, map, slice_range}
 use Rattle.std.specs.Option.{ForSome, option_map}
 use Rattle.vic_table.specs.Values.{ItemValue, PlaceRowValue}
@@ -6,7 +6,7 @@ use Rattle.vic_table.specs.declared.item_list.KeptItem.{KeptItem}
 use Rattle.vic_table.specs.declared.item_list.Item.{Item}
 use Rattle.vic_table.specs.inner.Spans.{IsWithin, span_bytes}
 
--- an item, with the place of its row in the text
+-- an item, with the offsets in the text at which its row begins and ends
 pub record ItemAt : Type 0 where
   pub line : ℕ
   pub start : ℕ
@@ -61,7 +61,7 @@ pub record IsWithinText (len : ℕ) (item : ItemAt) : Type 0 where
   pub low : item.start ≤ item.end
   pub high : item.end ≤ len
 
--- ---- the names of places
+-- ---- the places of items
 
 -- an item whose place is among these bytes
 abbrev pub kept_item : List ℕ → KeptItem → ItemAt

@@ -8,7 +8,7 @@ use Rattle.vic_table.specs.declared.lines.LineAt.{LineAt}
 use Rattle.vic_table.specs.declared.fault.TableFault.{TableFault}
 use Rattle.vic_table.specs.declared.fault.TableFault.TheVariants.{Line, Memory}
 
--- the first line of what follows a place, and what follows that line
+-- the line that begins at an offset of a text, and what follows it
 pub record IsLineAt (text : List ℕ) (start : ℕ) (l : LineAt) : Type 0 where
   pub start_is : l.start ≡ start
   pub low : start ≤ l.end

@@ -1,11 +1,12 @@
 -- Sets that tell whether a UID or a log was named before, and a line taken after those.
-use Rattle.std.specs.Prelude.{◌≡◌, ℕ, suc, Bool, true, not, Option, Some, None, List, [], ◌∷◌, ◌++◌}
+use Rattle.std.specs.Prelude.{◌≡◌, ℕ, suc, Bool, true, not, Option, None, List, [], ◌∷◌, ◌++◌}
 use Rattle.std.specs.BTreeSet.{BTreeSet, contains}
 use Rattle.std.specs.Cmp.Lexicographic.{slice_cmp}
 use Rattle.std.specs.Option.{option_or}
 use Rattle.std.specs.Ordering.{nat_cmp}
 use Rattle.std.specs.declared.vec.Vec.{Vec}
 use Rattle.vic_frame.specs.Uids.{has}
+use Rattle.vic_table.specs.Conserved.{as_list}
 use Rattle.vic_table.specs.Lines.{bytes_fault}
 use Rattle.vic_table.specs.Rows.{is_given, is_named, item_uids, item_line_fault, line_item, place_line_fault, line_place_row}
 use Rattle.vic_table.specs.Values.{PlaceRowValue}
@@ -19,15 +20,11 @@ use Rattle.vic_table.specs.inner.Kept.{item_or_none, row_or_none}
 abbrev pub IsSetOf : List ℕ → BTreeSet ℕ → Type 0
 IsSetOf uids set = (u : ℕ) → contains nat_cmp set u ≡ has uids u
 
-abbrev pub uid_or_none : Option ℕ → List ℕ
-uid_or_none None = []
-uid_or_none (Some u) = u ∷ []
-
 -- whether a row's UID is new after others, and the set with it if it is
 pub record TellsNew (before : List ℕ) (uid : Option ℕ) (new : Bool) (set : BTreeSet ℕ)
     : Type 0 where
   pub is_new : new ≡ not (is_given before uid)
-  pub set_is : new ≡ true → IsSetOf (before ++ uid_or_none uid) set
+  pub set_is : new ≡ true → IsSetOf (before ++ as_list uid) set
 
 -- the line behind so many lines has no fault, this is its item, and this set has its UID too
 pub record IsItemOf (c : CatalogueColumns) (given : List ℕ) (before : ℕ) (text line : List ℕ)

@@ -1,4 +1,4 @@
--- Cells that are kept as bytes and places among them.
+-- Cells that are kept as bytes and spans of these.
 use Rattle.std.specs.Prelude.{ℕ, ◌≤◌, Option, Some, None, List, [], ◌∷◌, ◌++◌, map, slice_range}
 use Rattle.vic_table.specs.Cells.{with_byte, with_cell, cells_from}
 use Rattle.vic_table.specs.declared.cells.Span.{Span}

@@ -1,26 +1,11 @@
--- The UIDs of a range that aren't exceptions, the masks whose keys lie in a range, and runs of keys
--- that pass a test.
+-- The masks whose keys lie in a range, and runs of keys that pass a test.
 use Rattle.std.specs.Prelude.{◌≡◌, ℕ, ◌+◌, ◌-◌, ◌*◌, ◌^◌, ◌<◌, ◌≤◌, ◌&&◌, Bool, true, false, not, List, Option, Some, None}
 use Rattle.vic_frame.specs.declared.uid.TheConstants.{UID_BITS}
-use Rattle.vic_frame.specs.Uids.{IsUid, has}
+use Rattle.vic_frame.specs.Uids.{has}
 use Rattle.vic_frame.specs.Masks.{BitMask, IsMask}
 use Rattle.vic_frame.specs.LowBitsFirst.{mirror}
 use Rattle.vic_tree.specs.OpenSet.{IsAtMost}
-use Rattle.vic_tree.specs.Ranges.{is_between, in_ranges}
-
--- a UID of a range of keys that isn't an exception
-pub record IsFreeBetween (first last : ℕ) (is_except : ℕ → Bool) (u : ℕ) : Type 0 where
-  pub is_uid : IsUid u
-  pub inside : is_between first last (mirror u) ≡ true
-  pub free : is_except u ≡ false
-
--- a UID whose key is from `first` to `last` and in one of some ranges, and that isn't an exception
-pub record IsFreeInRanges (rs : List (ℕ × ℕ)) (first last : ℕ)
-    (is_except : ℕ → Bool) (u : ℕ) : Type 0 where
-  pub is_uid : IsUid u
-  pub is_open : in_ranges rs (mirror u) ≡ true
-  pub inside : is_between first last (mirror u) ≡ true
-  pub free : is_except u ≡ false
+use Rattle.vic_tree.specs.Ranges.{in_ranges}
 
 -- how many keys agree in their highest `len` bits
 abbrev pub block_size : ℕ → ℕ

@@ -5,7 +5,7 @@ use Rattle.clap.specs.Lexer.{usize_max}
 use Rattle.clap.specs.Words.{fault_of, subcommand_of, subcommand_rows_of}
 use Rattle.vic_words.specs.declared.asked.WordsFault.TheVariants.{Usage}
 use Rattle.vic_words.specs.inner.Commands.{commands}
-use Rattle.vic_words.specs.inner.Given.{SubcommandAsks, clap_words}
+use Rattle.vic_words.specs.inner.Found.{SubcommandAsks, clap_words}
 use Rattle.vic_words.proofs.Asking.{all_utf8, asked_is_found, err_is, found_asks}
 use Rattle.vic_words.proofs.read_words.Goals as goal
 

@@ -5,23 +5,26 @@ use Rattle.clap.specs.Lexer.{usize_max}
 use Rattle.clap.specs.declared.builder.action.ArgAction.TheVariants.{Set, Append}
 
 -- one operand
-abbrev pub single : Text → Bool → Rule
-single id required = record (new_rule id) { action = Some Set; required = required }
+abbrev pub one_operand : Text → Bool → Rule
+one_operand id required = record (new_rule id) { action = Some Set; required = required }
 
 -- one operand or more
-abbrev pub several : Rule
-several = record (new_rule (codes "words")) {
+abbrev pub operands : Rule
+operands = record (new_rule (codes "words")) {
   action = Some Append;
   range = Some (record { start_inclusive = 1; end_inclusive = usize_max });
   required = true;
 }
 
-abbrev pub with_operand : Text → Text → Bool → App
-with_operand name id required = with_rule (new_app name) (single id required)
+-- a command with one operand
+abbrev pub operand_command : Text → Text → Bool → App
+operand_command name id required = with_rule (new_app name) (one_operand id required)
 
-abbrev pub with_words : Text → App
-with_words name = with_rule (new_app name) several
+-- a command with one or more words
+abbrev pub words_command : Text → App
+words_command name = with_rule (new_app name) operands
 
+-- the program without commands
 abbrev pub program : App
 program = record (new_app (codes "vicinity")) {
   top = record (new_app (codes "vicinity")).top {
@@ -30,26 +33,30 @@ program = record (new_app (codes "vicinity")) {
   };
 }
 
-abbrev pub with_file : App → Text → App
-with_file program name =
-    with_subcommand program (with_operand name (codes "file") false).top
+-- one more command, over a file or standard input
+abbrev pub with_file_command : App → Text → App
+with_file_command program name =
+    with_subcommand program (operand_command name (codes "file") false).top
 
+-- the program with its commands up to this one
 abbrev pub up_to_json : App
-up_to_json = with_file (with_file (with_file (with_file (with_file (with_file program
-    (codes "check")) (codes "simulate")) (codes "explain")) (codes "report")) (codes "margin"))
-    (codes "json")
+up_to_json =
+    with_file_command (with_file_command (with_file_command (with_file_command (with_file_command
+    (with_file_command program (codes "check")) (codes "simulate")) (codes "explain"))
+    (codes "report")) (codes "margin")) (codes "json")
 
 abbrev pub up_to_reconcile : App
-up_to_reconcile = with_subcommand (with_subcommand up_to_json
-    (with_operand (codes "frame") (codes "hex") true).top) (with_words (codes "reconcile")).top
+up_to_reconcile = with_subcommand
+    (with_subcommand up_to_json (operand_command (codes "frame") (codes "hex") true).top)
+    (words_command (codes "reconcile")).top
 
 abbrev pub up_to_collection : App
 up_to_collection = with_subcommand
-    (with_subcommand up_to_reconcile (with_words (codes "survey")).top)
-    (with_words (codes "collection")).top
+    (with_subcommand up_to_reconcile (words_command (codes "survey")).top)
+    (words_command (codes "collection")).top
 
 -- the program
 abbrev pub commands : App
 commands = with_subcommand
-    (with_subcommand up_to_collection (with_words (codes "json-collection")).top)
-    (with_words (codes "spell")).top
+    (with_subcommand up_to_collection (words_command (codes "json-collection")).top)
+    (words_command (codes "spell")).top

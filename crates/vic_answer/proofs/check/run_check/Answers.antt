@@ -4,7 +4,7 @@ use Rattle.vic_answer.proofs.CompleteRuns.{complete_where_revealed, complete_whe
 use Rattle.vic_answer.proofs.check.run_check.Goals as goal
 
 pub returns-clause-complete : goal.returns-clause-complete
-returns-clause-complete g c = complete_where_written IsCheckOf check_tells _ _ _ _ _ c.run_judged.result c.run_judged.ensures.answer
+returns-clause-complete g c = complete_where_written g.R.Source g.W.Sink IsCheckOf _ _ _ _ check_tells c.run_judged.result c.run_judged.ensures.answer
 
 pub returns-clause-complete_revealed : goal.returns-clause-complete_revealed
-returns-clause-complete_revealed g c = complete_where_revealed IsCheckOf check_tells _ _ _ _ c.run_judged.result c.run_judged.ensures.answer_revealed
+returns-clause-complete_revealed g c = complete_where_revealed g.R.Source g.W.Sink IsCheckOf _ _ _ _ check_tells c.run_judged.result c.run_judged.ensures.answer_revealed

@@ -6,8 +6,8 @@ use Rattle.vic_field.proofs.hear.hear.Goals as goal
 pub returns-in_default : goal.returns-in_default
 returns-in_default c =
     let row = c.args.row.now in
-    let from = c.place_of.result in
-    ap heard (sym (hears_from row c.args.first c.args.last from c.place_of.ensures ∙ hears_none row c.args.first c.args.last from (c.next_ready.ensures.none c.in_default.is)))
+    let from = c.position_of.result in
+    ap heard (sym (hears_from row c.args.first c.args.last from c.position_of.ensures ∙ hears_none row c.args.first c.args.last from (c.next_ready.ensures.none c.in_default.is)))
 
 pub uid_at-requires : goal.uid_at-requires
 uid_at-requires c =
@@ -21,9 +21,9 @@ returns-in-Some-next_ready c =
     let one = c.in-Some.one in
     let p = c.in-Some.ensures.some in
     let q = c.in-Some-next_ready.ensures.some in
-    let above = c.place_of.ensures.above in
-    sym (ap heard (hears_from row c.args.first c.args.last c.place_of.result c.place_of.ensures
-    ∙ hears_next row c.args.first c.args.last c.place_of.result one p (above one p.low p.there)
+    let above = c.position_of.ensures.above in
+    sym (ap heard (hears_from row c.args.first c.args.last c.position_of.result c.position_of.ensures
+    ∙ hears_next row c.args.first c.args.last c.position_of.result one p (above one p.low p.there)
     ∙ ap (λ us. uid_of (get_or row.keys.items one 0) ∷ us) (hears_next row c.args.first c.args.last (one + 1) _ q (above _ (let low = p.low in let more = q.low in omega arith) q.there))))
 
 pub returns-in-None : goal.returns-in-None
@@ -33,7 +33,7 @@ returns-in-None c =
     let one = c.in-Some.one in
     let p = c.in-Some.ensures.some in
     let here : uid_of (get_or ks one 0) ≡ c.uid_at.result = ap uid_of (get_or_default ks one 0 _ p.there ∙ sym c.index.ensures) ∙ sym c.uid_at.ensures.value in
-    sym (ap heard (hears_from row c.args.first c.args.last c.place_of.result c.place_of.ensures
-    ∙ hears_next row c.args.first c.args.last c.place_of.result one p (c.place_of.ensures.above one p.low p.there)
+    sym (ap heard (hears_from row c.args.first c.args.last c.position_of.result c.position_of.ensures
+    ∙ hears_next row c.args.first c.args.last c.position_of.result one p (c.position_of.ensures.above one p.low p.there)
     ∙ ap (λ us. uid_of (get_or ks one 0) ∷ us) (hears_none row c.args.first c.args.last (one + 1) (c.next_ready-2.ensures.none c.in-None.is)))
     ∙ ap Lone here)

@@ -1,5 +1,5 @@
-use Rattle.vic_field.proofs.Words.{take, entries, listed, AreKeysOf}
+use Rattle.vic_field.proofs.Words.{take, entries, listed, AreKeysOfEach}
 use Rattle.vic_field.proofs.populate.listed_keys.Given as goal
 
 abbrev pub invariant-loop-line : goal.invariant-loop-line
-invariant-loop-line l = AreKeysOf (listed (entries (take l.line-index l.lines))) l.keys.items
+invariant-loop-line l = AreKeysOfEach (listed (entries (take l.line-index l.lines))) l.keys.items

@@ -1,5 +1,5 @@
 use Rattle.vic_field.proofs.Words.{◌<◌, ◌%◌, ◌+◌, ◌≤◌, subst, sym, ◌∙◌, arith}
-use Rattle.vic_field.proofs.PlaceLaws.{ones, ones_end, ones_within}
+use Rattle.vic_field.proofs.PositionLaws.{ones, ones_end, ones_within}
 use Rattle.vic_field.proofs.quiet.ones_from.Goals as goal
 
 pub returns-clause-ones : goal.returns-clause-ones

@@ -1,5 +1,5 @@
 use Rattle.vic_field.proofs.Words.{◌<◌, ◌/◌, length, subst, arith, eq-eqb, eqb-true, HasBits}
-use Rattle.vic_field.proofs.PlaceLaws.{full_bits, set_bit, set_full}
+use Rattle.vic_field.proofs.PositionLaws.{full_bits, set_bit, set_full}
 use Rattle.vic_field.proofs.quiet.set.Goals as goal
 
 there : (c : goal.After-words-1) → c.args.bit / 64 < length c.args.words.now.items

@@ -7,7 +7,7 @@ loop-line-init c = λ i l below at. absurd (omega arith)
 
 pub returns-then-is_slot : goal.returns-then-is_slot
 returns-then-is_slot c = record {
-  place = c.loop-line.line-index;
+  position = c.loop-line.line-index;
   line = c.line-item.result;
   here = slice_get_read c.args.lines.now (length c.args.lines.now) c.loop-line.line-index c.line-item.result refl c.loop-line-test.true c.line-item.is;
   number = sym c.number.ensures;

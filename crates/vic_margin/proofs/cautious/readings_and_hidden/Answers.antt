@@ -11,7 +11,7 @@ use Rattle.vic_margin.proofs.Reopened.{read_deaf, read_hidden, read_none}
 use Rattle.vic_margin.proofs.cautious.readings_and_hidden.Goals as goal
 
 pub returns-then-not-falls_silent-clause-readings : goal.returns-then-not-falls_silent-clause-readings
-returns-then-not-falls_silent-clause-readings c = read_none (entries c.args.log.lines) (sym c.has_heard-hides.ensures ∙ c.if-not-hides.true) (sym c.ends_silent-falls_silent.ensures ∙ c.if-not-falls_silent.true)
+returns-then-not-falls_silent-clause-readings c = read_none (entries c.args.log.lines) (sym c.has_heard_alone-hides.ensures ∙ c.if-not-hides.true) (sym c.ends_silent-falls_silent.ensures ∙ c.if-not-falls_silent.true)
 
 pub returns-then-not-falls_silent-2-clause-readings : goal.returns-then-not-falls_silent-2-clause-readings
 returns-then-not-falls_silent-2-clause-readings c =
@@ -22,7 +22,7 @@ returns-then-not-falls_silent-2-clause-readings c =
     let possible : IsPossible hs = subst IsPossible (sym is) (possible_hidden es c.requires.possible) in
     let walked : AreEndsAt w.log_parts.parts hs (length hs) w.ends.items = ends_all hs w (rw c.of-2.ensures.value at c.in_ok-log_parts.ensures) possible in
     let ends : AreEndsAt w.log_parts.parts hs (length hs) c.deref.result.now = rw c.deref.ensures.value walked in
-    let hidden : IsFirstOpened (hidden_entries es) es c.in_ok-hidden.hidden = read_hidden es hs w.log_parts.parts c.deref.result.now c.args.ranges.now c.in_ok-hidden.hidden c.has_heard-hides.result c.requires.possible c.requires.«open» is c.has_heard-hides.ensures ends c.in_ok-hidden.ensures in
+    let hidden : IsFirstOpened (hidden_entries es) es c.in_ok-hidden.hidden = read_hidden es hs w.log_parts.parts c.deref.result.now c.args.ranges.now c.in_ok-hidden.hidden c.has_heard_alone-hides.result c.requires.possible c.requires.«open» is c.has_heard_alone-hides.ensures ends c.in_ok-hidden.ensures in
     let loud = sym c.ends_silent-falls_silent.ensures ∙ c.if-not-falls_silent-2.true in
     record { hidden = hidden; deaf = subst (λ ds. IsFirstOpened ds es c.in_ok-hidden.hidden) (sym (deaf_same es loud)) hidden }
 
@@ -41,6 +41,6 @@ returns-clause-readings c =
     let each : (p : ℕ) → slice_index c.deref-2.result.now p ≡ end_before c.behind_answers-answered.result (slice_index c.deref.result.now p) = λ p. ap (λ xs. slice_index xs p) after ∙ (c.reopen.ensures.each p ∙ ap (λ xs. end_before c.behind_answers-answered.result (slice_index xs p)) before) in
     let behind : IsBehindAnswers es c.behind_answers-answered.result = rw c.of.ensures.value at c.behind_answers-answered.ensures in
     record {
-      hidden = read_hidden es hs w.log_parts.parts c.deref.result.now c.args.ranges.now c.in_ok-hidden.hidden c.has_heard-hides.result c.requires.possible c.requires.«open» is c.has_heard-hides.ensures ends c.in_ok-hidden.ensures;
+      hidden = read_hidden es hs w.log_parts.parts c.deref.result.now c.args.ranges.now c.in_ok-hidden.hidden c.has_heard_alone-hides.result c.requires.possible c.requires.«open» is c.has_heard_alone-hides.ensures ends c.in_ok-hidden.ensures;
       deaf = read_deaf es hs w.log_parts.parts c.deref.result.now c.deref-2.result.now c.behind_answers-answered.result c.args.ranges.now c.in_ok-deaf.deaf c.requires.possible c.requires.«open» is behind ends size each c.in_ok-deaf.ensures;
     }

@@ -7,11 +7,11 @@ use Rattle.vic_object.specs.Asking.{asks_in, of_slots}
 use Rattle.vic_object.proofs.Asked.{asks_one, asks_parted, no_slots, slots_more}
 use Rattle.vic_object.proofs.asking.+push_asks.Goals as goal
 
-pub returns-then-not-is_parted : goal.returns-then-not-is_parted
-returns-then-not-is_parted t c = on_ok_weaker c.push_ask.result (λ same es a.
+pub returns-then-not-has_collided_below : goal.returns-then-not-has_collided_below
+returns-then-not-has_collided_below t c = on_ok_weaker c.push_ask.result (λ same es a.
     same ∙ ap (λ (qs : List Request). c.args.requests.now.items ++ qs)
     (ap (λ (b : Bool). Inventory c.args.link b c.args.mask ∷ []) (c.is_for_sixteen-sixteen.ensures es a)
-    ∙ sym (asks_one es c.args.times c.args.link c.args.mask (omega arith) (sym (c.is_parted.ensures es a) ∙ c.if-not-is_parted.true)))) c.push_ask.ensures
+    ∙ sym (asks_one es c.args.times c.args.link c.args.mask (omega arith) (sym (c.has_collided_below.ensures es a) ∙ c.if-not-has_collided_below.true)))) c.push_ask.ensures
 
 pub loop-k-init : goal.loop-k-init
 loop-k-init t c es a = sym (ap (λ (qs : List Request). c.args.requests.now.items ++ qs) (no_slots (asks_in es (c.args.times - 1) c.args.link) c.args.mask) ∙ append-nil c.args.requests.now.items)
@@ -33,4 +33,4 @@ returns t c es a =
     let m = c.args.mask in
     let end : c.loop-k.k ≡ 16 = omega arith in
     c.loop-k.invariant es a ∙ ap (λ (j : ℕ). old ++ of_slots f m j) end
-    ∙ ap (λ (qs : List Request). old ++ qs) (sym (asks_parted es c.args.times c.args.link m (omega arith) (sym (c.is_parted.ensures es a) ∙ c.if-not-is_parted.false)))
+    ∙ ap (λ (qs : List Request). old ++ qs) (sym (asks_parted es c.args.times c.args.link m (omega arith) (sym (c.has_collided_below.ensures es a) ∙ c.if-not-has_collided_below.false)))

@@ -1,6 +1,6 @@
 use Rattle.std.proofs.Common.{◌≡◌, ◌++◌, map, take}
 use Rattle.vic_object.specs.Finding.{silenced_findings}
-use Rattle.vic_object.specs.declared.finding.Finding.TheVariants.{Conflict}
+use Rattle.vic_object.specs.declared.finding.FindingTold.TheVariants.{Conflict}
 use Rattle.vic_object.proofs.finding.lines_of_conflict.Given as goal
 
 abbrev pub invariant-loop-line : goal.invariant-loop-line

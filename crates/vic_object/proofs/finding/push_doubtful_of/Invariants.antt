@@ -1,5 +1,5 @@
 use Rattle.std.proofs.Common.{◌≡◌, ◌++◌, map, take}
-use Rattle.vic_object.specs.declared.finding.Finding.TheVariants.{Doubtful}
+use Rattle.vic_object.specs.declared.finding.FindingTold.TheVariants.{Doubtful}
 use Rattle.vic_object.proofs.finding.push_doubtful_of.Given as goal
 
 abbrev pub invariant-loop-uid : goal.invariant-loop-uid

@@ -1,5 +1,5 @@
 use Rattle.std.proofs.Common.{◌≡◌, ◌++◌, map, take}
-use Rattle.vic_object.specs.declared.finding.Finding.TheVariants.{Unlisted}
+use Rattle.vic_object.specs.declared.finding.FindingTold.TheVariants.{Unlisted}
 use Rattle.vic_object.proofs.finding.push_unlisted_of.Given as goal
 
 abbrev pub invariant-loop-shown : goal.invariant-loop-shown

@@ -2,4 +2,4 @@ use Rattle.std.proofs.Common.{sym}
 use Rattle.vic_operands.proofs.operand.surveys_in.Goals as goal
 
 pub returns-in-Ok : goal.returns-in-Ok
-returns-in-Ok c = (rw c.as_slice.ensures.value at c.are_surveys.ensures, sym c.in-Ok.ensures.found)
+returns-in-Ok c = (c.in-Ok.ensures.valid, sym c.in-Ok.ensures.found)

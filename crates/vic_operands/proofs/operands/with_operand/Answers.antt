@@ -1,9 +1,9 @@
 use Rattle.vic_operands.proofs.KeptLaws.{more_catalogues, more_places, more_surveys}
 use Rattle.vic_operands.proofs.operands.with_operand.Goals as goal
 
-pub returns-in_ok-surveys-in-Surveys : goal.returns-in_ok-surveys-in-Surveys
-returns-in_ok-surveys-in-Surveys c files file h k =
-    more_surveys files file _ _ _ c.in-Surveys.more.items _ h (rw c.in-Surveys.is at k) c.in_ok-surveys-in-Surveys.ensures
+pub returns-in_ok-append-in-Surveys : goal.returns-in_ok-append-in-Surveys
+returns-in_ok-append-in-Surveys c files file h k =
+    more_surveys files file _ _ _ c.in-Surveys.more.items _ h (rw c.in-Surveys.is at k) c.in_ok-append-in-Surveys.ensures.items
 
 pub returns-in_ok-push-in-Catalogue : goal.returns-in_ok-push-in-Catalogue
 returns-in_ok-push-in-Catalogue c files file h k =

@@ -13,7 +13,7 @@ pub returns-in-Refused : goal.returns-in-Refused
 returns-in-Refused c files h = gathered-behind_list files (Refused c.in-Refused.refusal) (rw c.in-Refused.is at h)
 
 pub returns-in-Listed : goal.returns-in-Listed
-returns-in-Listed c = IfOk-weaker c.gather.result _ _ (λ g right files h. right files (rw c.in-Listed.is at h)) c.gather.ensures
+returns-in-Listed c = IfOk-weaker c.gather_behind_list.result _ _ (λ g right files h. right files (rw c.in-Listed.is at h)) c.gather_behind_list.ensures
 
 pub returns-in-Collected : goal.returns-in-Collected
 returns-in-Collected c =

@@ -4,7 +4,7 @@ use Rattle.vic_operands.proofs.reconcile_operands.with_log.Goals as goal
 
 pub returns-in-Ok : goal.returns-in-Ok
 returns-in-Ok c files h name =
-    logs-more files (record { name = c.args.name; text = c.args.text.now }) c.args.listed.catalogue c.args.listed.surveys.items c.in-Ok.more.items c.in_ok-surveys-in-Ok.surveys.items name h c.in-Ok.ensures.0 c.in-Ok.ensures.1 c.in_ok-surveys-in-Ok.ensures
+    logs-more files (record { name = c.args.name; text = c.args.text.now }) c.args.listed.catalogue c.args.listed.surveys.items c.in-Ok.more.items _ name h c.in-Ok.ensures.0 c.in-Ok.ensures.1 c.in_ok-append-in-Ok.ensures.items
 
 pub returns-in-Err-Line : goal.returns-in-Err-Line
 returns-in-Err-Line c files h name =

@@ -2,7 +2,7 @@ use Rattle.std.proofs.Common.{◌≡◌, ◌∙◌, ◌++◌, ◌∷◌, ◌<◌
 use Rattle.std.proofs.lemmas.List.{get_or-map, length-map, take_all}
 use Rattle.vic_program.specs.Each.{ReadsEach}
 use Rattle.vic_program.specs.Ends.{line_of}
-use Rattle.vic_program.specs.Sides.{FilesView}
+use Rattle.vic_program.specs.FilesView.{files_view}
 use Rattle.vic_program.proofs.InTurn.{err_is, reads_more, stops_at, taken_next}
 use Rattle.vic_program.proofs.each.taken_from.Goals as goal
 
@@ -26,7 +26,7 @@ loop-name-preserved g c =
     let name = c.as_str.result.now in
     let text = c.in_ok-text.text.items in
     let other : c.as_str-in-loop-name.result.now ≡ name = c.as_str-in-loop-name.ensures.value ∙ sym c.as_str.ensures.value in
-    let o : FilesView g.row.F-File.Denot = record { reading = record { returned = g.F.File.Source.returned; ended = g.F.File.Source.ended; reads = g.F.File.Source.reads; has_failed = g.F.File.Source.has_failed }; origin = g.F.Files.origin c.args.files.now; Refuses = g.F.Files.Refuses c.args.files.now } in
+    let o = files_view g.F.Files g.F.File.Source c.args.files.now in
     subst (λ us. ReadsEach o us (λ texts. g.G.Gather.HasTaken us texts c.in_ok-taken.taken)) (sym (taken_next ns i name below named))
     (reads_more o (take i ns) name text _ (λ texts. g.G.Gather.HasTaken (take i ns ++ name ∷ []) texts c.in_ok-taken.taken) c.loop-name.invariant c.in_ok-text.ensures.text
     (λ texts h. subst (λ n. g.G.Gather.HasTaken (take i ns ++ n ∷ []) (texts ++ text ∷ []) c.in_ok-taken.taken) other (c.in_ok-taken.ensures (take i ns) texts h)))
@@ -35,5 +35,5 @@ pub returns-clause-taken : goal.returns-clause-taken
 returns-clause-taken g c =
     let ns = map string_bytes c.args.names.now in
     let end = c.loop-name-test.false in
-    let o : FilesView g.row.F-File.Denot = record { reading = record { returned = g.F.File.Source.returned; ended = g.F.File.Source.ended; reads = g.F.File.Source.reads; has_failed = g.F.File.Source.has_failed }; origin = g.F.Files.origin c.args.files.now; Refuses = g.F.Files.Refuses c.args.files.now } in
+    let o = files_view g.F.Files g.F.File.Source c.args.files.now in
     subst (λ us. ReadsEach o us (λ texts. g.G.Gather.HasTaken us texts c.loop-name.taken)) (take_all c.loop-name.name-index ns (omega (arith, length-map c.args.names.now string_bytes, end))) c.loop-name.invariant

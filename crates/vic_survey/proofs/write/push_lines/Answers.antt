@@ -1,4 +1,4 @@
-use Rattle.vic_survey.proofs.Words.{◌∙◌, sym, codes, ◌++◌, ◌∷◌, seen_lines, on_ok_weaker, decimal, line_fault_name}
+use Rattle.vic_survey.proofs.Words.{◌∙◌, sym, codes, ◌++◌, ◌∷◌, facts_lines, on_ok_weaker, decimal, line_fault_name}
 use Rattle.vic_survey.proofs.Joined.{two_lines, behind_line}
 use Rattle.vic_survey.proofs.write.push_lines.Goals as goal
 
@@ -6,7 +6,7 @@ pub returns-in-Possible-clause-text : goal.returns-in-Possible-clause-text
 returns-in-Possible-clause-text c =
     let name_is = c.as_bytes.ensures.value ∙ c.as_str.ensures.value ∙ c.name.ensures.value in
     let field_is = sym c.field.ensures.value ∙ c.in-Possible.is in
-    on_ok_weaker c.push_seen.result (λ e. rw field_is (behind_line c.args.text.now.items (codes "vicinity-survey 1 " ++ c.args.survey.now.name) (codes "possible" ∷ seen_lines c.in-Possible.seen) (rw name_is at c.in_ok-push_line.ensures) e)) c.push_seen.ensures.text
+    on_ok_weaker c.push_facts.result (λ e. rw field_is (behind_line c.args.text.now.items (codes "vicinity-survey 1 " ++ c.args.survey.now.name) (codes "possible" ∷ facts_lines c.in-Possible.facts) (rw name_is at c.in_ok-push_line.ensures) e)) c.push_facts.ensures.text
 
 pub returns-in_ok-push_refused-in-Refused-clause-text : goal.returns-in_ok-push_refused-in-Refused-clause-text
 returns-in_ok-push_refused-in-Refused-clause-text c =

@@ -1,6 +1,6 @@
 use Rattle.vic_collection.proofs.Words.{Some, map, list_any, sym, ap, ◌∙◌}
 use Rattle.std.specs.Option.{option_map}
-use Rattle.vic_collection.specs.Collections.{CollectionValue}
+use Rattle.vic_collection.specs.Collections.{CollectionValue, certain_logs}
 use Rattle.vic_collection.specs.States.{is_certain_at}
 use Rattle.vic_collection.specs.inner.Placed.{is_placed}
 use Rattle.vic_collection.proofs.Placing.{certain_at}
@@ -13,5 +13,5 @@ returns-in-Some c =
     let place = c.in-Some.place.now in
     let u = c.args.uid in
     let places = map (option_map (λ p. p.items)) inside.places.items in
-    let at_view = ap (list_any (is_placed places place)) (c.logs_of.ensures ∙ c.self.invariant.2.certain u) ∙ certain_at view places place u c.self.invariant.0 in
-    c.any_placed.ensures ∙ (ap (λ all. list_any (is_placed (map (option_map (λ p. p.items)) all) place) c.logs_of.result.now) c.deref.ensures.value ∙ (at_view ∙ (ap (λ v. is_certain_at v (Some place) u) c.self.view_is ∙ ap (λ p. is_certain_at c.args.self.now (option_map (λ b. b.now) p) u) (sym c.in-Some.is))))
+    let at_view = ap (list_any (is_placed places place)) (c.requires ∙ ap (λ v. certain_logs v u) (sym c.self.view_is)) ∙ certain_at view places place u c.self.invariant.0 in
+    c.any_placed.ensures ∙ (ap (λ all. list_any (is_placed (map (option_map (λ p. p.items)) all) place) c.args.logs.now) c.deref.ensures.value ∙ (at_view ∙ (ap (λ v. is_certain_at v (Some place) u) c.self.view_is ∙ ap (λ p. is_certain_at c.args.self.now (option_map (λ b. b.now) p) u) (sym c.in-Some.is))))

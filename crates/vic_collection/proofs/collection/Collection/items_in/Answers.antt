@@ -1,6 +1,5 @@
-use Rattle.vic_collection.proofs.Listing.{found_in, from_three}
+use Rattle.vic_collection.proofs.Listing.{found_in}
 use Rattle.vic_collection.proofs.collection.Collection.items_in.Goals as goal
 
 pub returns : goal.returns
-returns c = from_three c.found_items.result _ _ _ _ (λ found rising members items. found_in c.args.self.now c.args.state c.args.states.now c.in_ok-items.items found.items c.requires c.in_ok-items.ensures rising members items)
-    c.found_items.ensures.rising c.found_items.ensures.members c.found_items.ensures.items
+returns c = found_in _ _ _ _ c.in_ok-all_in.ensures c.by_uids.ensures.rising c.by_uids.ensures.members c.by_uids.ensures.items

@@ -3,7 +3,7 @@ use Rattle.std.specs.List.{Contains}
 use Rattle.vic_report.specs.Findings.{uids_of}
 use Rattle.vic_report.specs.declared.shown.ShownUid.{ShownUid}
 use Rattle.vic_survey.specs.Surveys.{SurveyValue}
-use Rattle.vic_survey.specs.declared.survey.Field.TheVariants.{Possible}
+use Rattle.vic_survey.specs.declared.survey.SurveyedField.TheVariants.{Possible}
 use Rattle.vic_collection.specs.Collections.{is_certain_by, is_certain_in}
 use Rattle.vic_collection.specs.Findings.{IsShownBy}
 use Rattle.vic_collection.proofs.Elements.{item_at, same_at}

@@ -1,8 +1,8 @@
-use Rattle.vic_field.proofs.Words.{length, [], ap, subst, sym, arith, AreKeys}
+use Rattle.vic_field.proofs.Words.{length, [], ap, subst, sym, arith, AreRisingKeys}
 use Rattle.std.specs.List.Sorted.{IsStrictlySortedBy}
 use Rattle.vic_field.proofs.field.Field.new.Goals as goal
 
-no_keys : AreKeys []
+no_keys : AreRisingKeys []
 unfolding IsStrictlySortedBy
 no_keys = record {
   small = λ k d h. absurd (omega arith);
@@ -11,6 +11,6 @@ no_keys = record {
 
 pub invariant_of-result : goal.invariant_of-result
 invariant_of-result c = record {
-  rising = subst AreKeys (sym c.new.ensures.items) no_keys;
+  rising = subst AreRisingKeys (sym c.new.ensures.items) no_keys;
   room = let none = ap length c.new.ensures.items in omega (arith, none);
 }

@@ -1,9 +1,9 @@
-use Rattle.vic_field.proofs.Words.{◌≡◌, ◌<◌, ◌-◌, ◌∙◌, List, ℕ, get_or, sym, arith, nat_cmp, leb-true, ltb-true, AreKeys, IsStrictlySortedBy}
+use Rattle.vic_field.proofs.Words.{◌≡◌, ◌<◌, ◌-◌, ◌∙◌, List, ℕ, get_or, sym, arith, nat_cmp, leb-true, ltb-true, AreRisingKeys, IsStrictlySortedBy}
 use Rattle.vic_field.proofs.RowLaws.{between}
 use Rattle.vic_field.proofs.row.Row.is_between.Goals as goal
 use Rattle.vic_field.proofs.row.Row.is_between.Goals.{then-from-eq0, else-from-eq0}
 
-order : {xs ks : List ℕ} → ks ≡ xs → AreKeys xs → IsStrictlySortedBy nat_cmp ks
+order : {xs ks : List ℕ} → ks ≡ xs → AreRisingKeys xs → IsStrictlySortedBy nat_cmp ks
 order is keys = rw is keys.rising
 
 pub returns-then-to-keys : goal.returns-then-to-keys

@@ -1,11 +1,11 @@
-use Rattle.vic_field.proofs.Words.{◌≡◌, ◌-◌, ◌≤◌, ◌<◌, ℕ, true, length, is_quiet_place}
+use Rattle.vic_field.proofs.Words.{◌≡◌, ◌-◌, ◌≤◌, ◌<◌, ℕ, true, length, is_quiet_position}
 use Rattle.vic_field.proofs.row.Row.next_ready.Given as goal
 
-abbrev pub invariant-loop-place : goal.invariant-loop-place
-invariant-loop-place l = record {
-  low : l.from ≤ l.place;
-  quiet : (k : ℕ) → l.from ≤ k → k < l.place → is_quiet_place l.self.quiet k ≡ true;
+abbrev pub invariant-loop-position : goal.invariant-loop-position
+invariant-loop-position l = record {
+  low : l.from ≤ l.position;
+  quiet : (k : ℕ) → l.from ≤ k → k < l.position → is_quiet_position l.self.quiet k ≡ true;
 }
 
-abbrev pub decreases-loop-place : goal.decreases-loop-place
-decreases-loop-place l = length l.self.keys.items - l.place
+abbrev pub decreases-loop-position : goal.decreases-loop-position
+decreases-loop-position l = length l.self.keys.items - l.position

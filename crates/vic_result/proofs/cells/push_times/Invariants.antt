@@ -1,5 +1,0 @@
-use Rattle.vic_result.proofs.Words.{◌≡◌, ◌++◌, replicate}
-use Rattle.vic_result.proofs.cells.push_times.Given as goal
-
-abbrev pub invariant-loop : goal.invariant-loop
-invariant-loop l = l.text.items ≡ l.fn.text.items ++ replicate l.counter l.byte

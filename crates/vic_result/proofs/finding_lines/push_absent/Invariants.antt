@@ -1,6 +1,0 @@
-use Rattle.vic_result.proofs.Words.{◌≡◌, ◌++◌, flat_map, take}
-use Rattle.vic_result.specs.ResultLines.{absent_lines}
-use Rattle.vic_result.proofs.finding_lines.push_absent.Given as goal
-
-abbrev pub invariant-loop-found : goal.invariant-loop-found
-invariant-loop-found l = l.text.items ≡ l.fn.text.items ++ flat_map absent_lines (take l.found-index l.absent)

@@ -1,7 +1,0 @@
-use Rattle.vic_result.proofs.Words.{◌≡◌, ◌++◌, map, take}
-use Rattle.vic_text.specs.Json.{comma_joined}
-use Rattle.vic_result.specs.ResultObject.{item_of_json}
-use Rattle.vic_result.proofs.lists.push_items.Given as goal
-
-abbrev pub invariant-loop-index : goal.invariant-loop-index
-invariant-loop-index l = l.text.items ≡ l.fn.text.items ++ comma_joined (map (item_of_json l.collection) (take l.index l.collection.catalogue.items))

@@ -1,7 +1,0 @@
-use Rattle.vic_result.proofs.Words.{◌≡◌, ◌++◌, map, take}
-use Rattle.vic_text.specs.Json.{comma_joined}
-use Rattle.vic_result.specs.ResultObject.{extra_of}
-use Rattle.vic_result.proofs.object.push_extras.Given as goal
-
-abbrev pub invariant-loop-index : goal.invariant-loop-index
-invariant-loop-index l = l.text.items ≡ l.fn.text.items ++ comma_joined (map (extra_of l.collection) (take l.index l.extras))

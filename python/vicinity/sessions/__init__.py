@@ -1,3 +1,0 @@
-"""What is said of one log. `session` has its rows; `findings` what the library says of it; `words`
-numbers, masks and lines in words; `headline` the answer in a sentence; `report` and `show` are what
-the commands of these names write."""

@@ -1,0 +1,208 @@
+/** Draws a collection: what isn't sure of its logs, what to count again, what to do at each shelf, what isn't known yet, and each log. */
+import { maskOf } from "../judge/frames.mjs";
+import { KIND } from "../judge/objects.mjs";
+import { IF_HEARD, NOTHING_TO_DO, ONE_MORE } from "../say/say.mjs";
+import { inOrder, MOST_LISTED, nameOf } from "../say/shelves.mjs";
+import { conditionsOf, sayAll, summaryOf } from "../say/summary.mjs";
+import { granted, TO_KNOW } from "../say/sure.mjs";
+import { count, dated, endings, listing, printable } from "../say/words.mjs";
+import { bullets, button, drawnLater, el, folded, lowered, oneStop, rest } from "./elements.mjs";
+import { shelved } from "./items.mjs";
+import { Pane } from "./pane.mjs";
+import { banner, signed, view } from "./view.mjs";
+
+/** @typedef {import("../judge/told.mjs").Told} Told */
+/** @typedef {import("../judge/objects.mjs").CollectionObject} CollectionObject */
+/** @typedef {import("../judge/objects.mjs").Item} Item */
+/** @typedef {import("../judge/objects.mjs").OneLog} OneLog */
+/** @typedef {(at: number) => null | (() => Promise<Told | undefined>)} Opener what is told of a log, by its number, if it can be had */
+
+/** How many logs are drawn, how many items are seen unfolded, how many stand on paper that are here, and how many masks are named. */
+const MOST_LOGS = 2000, FEW_ITEMS = 200, MOST_PRINTED = 100, MOST_MASKS = 3;
+/** How many cells of the catalogue are the name of an item. */
+const MOST_CELLS = 2;
+const LOOK_FOR = "One that you find: its tag is covered, broken or not the one in the catalogue, or its reply was lost; move it, and count " +
+  "again. One that you don't find: leave its row in the catalogue. ";
+const NOT_EXPECTED = "What isn't in the catalogue: find it by reading the items one by one, and bring it to where it belongs, or add it. ";
+const IS_BACK = "What is back was away, as the catalogue says: record that it is here.";
+const ELSEWHERE = "The logs of their shelves rule these out. Count again first, as said above; then look there: a tag may be covered.";
+const NO_TAG = "These rows of the catalogue have no UID, so nothing is known of them: look for them by eye.";
+const UNKNOWN_YET = "Whether these are here isn't known until the logs above are counted again.";
+const NOT_COUNTED = "Nothing is known of these, as their places have no log.";
+const WAITS = "Open or drop the logs, in any order. A catalogue says what should be here: a list of what was read is none, it would always agree.";
+const AGAIN_BROKEN = " If a log contradicts itself again, send it and this page to whoever maintains the reader.";
+const STRAYS = "Of these it isn't known where they were heard: their logs are of no place. Where to find them is known once the places are.";
+const NO_RESULT = "This sheet is no result: a question above is open.", ASK_MORE = "Count again, with readers that ask all once more at the end.";
+const CARRIED = "Nothing was carried from one field to another while the logs were written.";
+const ONCE_AGAIN = `Of these a strong reply may have hidden others: ${TO_KNOW}.`;
+const PROVED = "What is said of each item and log is what the library writes of these files, which is proved; how the page draws it is tested.";
+
+/**
+ * @param {CollectionObject} object
+ * @param {Opener} [opener]
+ * @param {(name: string) => boolean} [canLeave] whether a log can be left out
+ * @returns {Node[]}
+ */
+export function collectionView(object, opener = () => null, canLeave) {
+  const { shelves, doubts, answered, of, elsewhere, others, strays, open, hiding, deaf, isComplete } = summaryOf(object), said = sayAll(object);
+  const { counts, logs } = object, home = (/** @type {Item} */ { place }) => printable(place ?? ""), file = printable(object.file);
+  const notes = [...object.left ?? [], ...answered].map((it) => el("p", { class: "note" }, it));
+  if (!logs.length) return [...notes, banner(said, file), ...doubted(object, canLeave), el("p", {}, WAITS)];
+  const mayBe = { "may be in": (/** @type {Item} */ item) => shelves.mayBe(item) }, at = (/** @type {Item} */ item) => shelves.at(item);
+  // of a shelf of which nothing is known to be in place no items are named
+  const known = new Set(["", ...of("in place").map(home)]), some = others.filter((item) => known.has(home(item)));
+  const none = others.filter((item) => !known.has(home(item))), places = listing([...new Set(none.map(home))].sort(inOrder));
+  const which = none.length ? ` They are ${count(none.length, "item")} of ${places}, not named here${some.length ? ", and these:" : "."}` : "";
+  const todo = of("missing", "misplaced", "unexpected", "returned").filter((item) => !shelves.isStray(item));
+  const isKnown = !todo.length && !strays.length && !counts["not provable"] && !counts["not counted"];
+  const rests = conditionsOf(object).map((it) => el("p", {}, it)), conditions = rests.length ? [el("section", { class: "holds" }, rests)] : [];
+  const done = [...logs.keys()].filter((it) => !open.includes(it)), isBroken = open.some((it) => logs[it].field.startsWith(KIND.IMPOSSIBLE));
+  const again = `Count ${open.length === 1 ? "it" : "each"} again, to the end, in a new log.`, step = deaf.length ? IF_HEARD : NOTHING_TO_DO;
+  const byEye = counts["no tag"] ? [`Look for ${count(counts["no tag"], "item")} by eye, as said below.`] : [];
+  const steps = [...byEye, ...object.wanted ? [ASK_MORE] : hiding.length ? ONE_MORE : byEye.length ? [] : [step]].map((it) => el("li", {}, it));
+  const look = (counts.missing ? `Missing items ${logs.length > 1 ? "answered on no shelf" : "didn't answer"}. ${LOOK_FOR}` : "") +
+    (counts.unexpected ? NOT_EXPECTED : "") + (counts.returned ? IS_BACK : "");
+  const drawn = (/** @type {string} */ title, /** @type {string} */ words, /** @type {number[]} */ list, isFirst = false) =>
+    logsOf(title, words, list, isFirst, object, opener);
+  return [...notes, banner(said, `${file} · ${count(logs.length, "log")}${spanOf(logs)}`), ...doubted(object, canLeave),
+    ...(isComplete || object.wanted) && !doubts.length ? [el("h2", {}, "At the shelves"), el("ul", { class: "steps" }, steps)] : [],
+    ...isKnown ? conditions : [], ...drawn("Count again", again + (isBroken ? AGAIN_BROKEN : ""), open, true),
+    ...part("At the shelves", todo, doubts.every((it) => !it.numbers), look, shelved(todo, shelves, at, {}, (item) => shelves.toDo(item))),
+    ...part("Heard in logs of no place", strays, false, STRAYS, shelved(strays, shelves, at, { "belongs to": home })),
+    ...part("Not heard on their shelves", elsewhere, true, ELSEWHERE, shelved(elsewhere, shelves, home, mayBe)),
+    ...part("Without a tag", of("no tag"), true, NO_TAG, shelved(of("no tag"), shelves, home, {}, () => "look for")),
+    ...part("Not counted", of("not counted"), counts["not counted"] <= MOST_LISTED, NOT_COUNTED, shelved(of("not counted"), shelves, home)),
+    ...part("Not known yet", others, others.length <= MOST_LISTED, UNKNOWN_YET + which, shelved(some, shelves, home, some.every(home) ? {} : mayBe)),
+    ...isKnown ? [] : conditions,...drawn("Ask all once more", ONCE_AGAIN, hiding), ...listOf(object),
+    ...drawn("Searched to the end", "", done.filter((it) => !hiding.includes(it))), ...grantedOfAll(object), recordOfAll(object)];
+}
+
+/**
+ * When the first and the last file were changed.
+ * @param {OneLog[]} logs
+ */
+function spanOf(logs) {
+  const all = logs.flatMap(({ changed }) => changed ?? []), ends = [...new Set([dated(Math.min(...all)), dated(Math.max(...all))])];
+  return all.length ? ` · file${logs.length > 1 ? "s" : ""} of ${ends.join(" to ")}` : "";
+}
+
+/**
+ * What isn't sure of the logs, with buttons that answer, and where none of them would leave out what can't be, with these, too.
+ * @param {CollectionObject} object
+ * @param {((name: string) => boolean)} [canLeave] whether a log can be left out
+ */
+function doubted(object, canLeave) {
+  const { doubts } = summaryOf(object), items = doubts.slice(0, MOST_LISTED).map(({ words, cure, buttons = [], logs = [] }) => {
+    const pressed = buttons.filter(([, data]) => canLeave && ("data-both" in data || logs.every(canLeave))).map((it) => button(...it));
+    return el("li", {}, el("b", {}, words), ` ${cure}`, ...pressed.length ? [el("p", { class: "take" }, pressed)] : []);
+  });
+  return items.length ? [el("section", { class: "doubts" }, el("h2", {}, "Logs and shelves"), el("ul", { class: "steps" }, items),
+    ...rest(doubts.length - MOST_LISTED))] : [];
+}
+
+/**
+ * A part about items, with their number.
+ * @param {string} title
+ * @param {Item[]} list
+ * @param {boolean} open
+ * @param {string} words
+ * @param {Element[]} drawn a table first
+ */
+function part(title, list, open, words, drawn) {
+  drawn[0]?.prepend(el("caption", {}, title));
+  return list.length ? [folded(`${title} (${list.length.toLocaleString("en")})`, open && list.length <= FEW_ITEMS,
+    ...words ? [el("p", {}, words)] : [], ...drawn)] : [];
+}
+
+/**
+ * The items that are here, by their shelves; on paper they stand if they are few.
+ * @param {CollectionObject} object
+ */
+function listOf(object) {
+  const { of, shelves } = summaryOf(object), list = of("in place", "there");
+  const it = drawnLater(`Here (${count(list.length, "item")})`, false, () => shelved(list, shelves, ({ place }) => printable(place ?? "")));
+  it.classList.toggle("aside", list.length > MOST_PRINTED);
+  return list.length ? [it] : [];
+}
+
+/**
+ * Logs, each drawn when it is opened; those first that say nothing.
+ * @param {string} title
+ * @param {string} words
+ * @param {number[]} list
+ * @param {boolean} open
+ * @param {CollectionObject} object
+ * @param {Opener} opener
+ */
+function logsOf(title, words, list, open, object, opener) {
+  const { shelves } = summaryOf(object), isAside = (/** @type {number} */ at) => Number(object.logs[at].field !== "possible");
+  const sorted = [...list].sort((one, other) => isAside(other) - isAside(one) || inOrder(shelves.name(one), shelves.name(other)));
+  const items = sorted.slice(0, MOST_LOGS).map((at) => el("li", {}, oneLog(object, at, opener(at))));
+  return list.length ? [folded(`${title} (${count(list.length, "log")})`, open, ...words ? [el("p", {}, words)] : [],
+    oneStop(el("ul", { class: "logs" }, items), ".log > summary"), ...rest(list.length - MOST_LOGS))] : [];
+}
+
+/**
+ * @param {CollectionObject} object
+ * @param {number} at
+ * @param {ReturnType<Opener>} opens
+ */
+function oneLog(object, at, opens) {
+  const { shelves } = summaryOf(object), log = object.logs[at], name = shelves.name(at), file = nameOf(log.was ?? log.name);
+  const sha256 = log.sha256 ?? log.object?.sha256, isSame = [file, file.replace(/\.[^. ]*$/, "")].includes(name);
+  const sum = sha256 ? [el("span", { class: "sum" }, `\u00A0· ${log.changed ? `of ${dated(log.changed)}\u00A0· ` : ""}`,
+    el("code", {}, `SHA-256 ${sha256}`))] : [];
+  const words = [el("b", { title: printable(log.was ?? log.name) }, name), `${isSame ? "" : ` (${file})`}: ${saidOf(log)}`, ...sum];
+  if (!opens) return el("p", { class: "log" }, words);
+  const it = /** @type {HTMLDetailsElement} */ (el("details", { class: "log aside" }, el("summary", {}, words)));
+  it.addEventListener("toggle", async () => {
+    if (!it.open || it.childElementCount > 1) return;
+    const place = it.appendChild(el("p", {}, "..")), told = await opens();
+    const names = new Map(object.items.flatMap((item) => item.uid ? [[item.uid, shelves.said(item, MOST_CELLS)]] : []));
+    place.replaceWith(told ? drawnLog(told, names) : el("p", {}, "There is no answer to this log."));
+  });
+  return it;
+}
+
+/**
+ * A log and its text.
+ * @param {Told} told
+ * @param {import("./view.mjs").Names} names
+ */
+function drawnLog(told, names) {
+  const label = `The text of ${printable(told.object.file)}`, shown = lowered(view(told, names, false));
+  const field = /** @type {HTMLTextAreaElement} */ (el("textarea", { class: "text", readonly: "", "aria-label": label }));
+  new Pane(field, shown).put(new TextEncoder().encode(told.object.text));
+  return el("div", { class: "both" }, shown, el("div", { class: "beside" }, field));
+}
+
+/**
+ * What a log says, and what is left to ask in its field.
+ * @param {OneLog} log
+ */
+function saidOf({ field, certain = 0, open = [], more }) {
+  const [kind, , , line] = field.split(" "), where = `line ${parseInt(line)}`;
+  if (kind === KIND.IMPOSSIBLE) return `nothing is known of its field, since its log contradicts itself (${where})`;
+  if (kind === KIND.REFUSED) return `this log can't be read (${where}), so nothing is known of its field: copy it again, or count again`;
+  const proved = count(certain, "tag"), left = open.length - MOST_MASKS;
+  const others = more ? "more masks" : left > 1 ? `${left.toLocaleString("en")}\u00A0more masks` : "";
+  return open.length ? `${proved}; left to ask: ${endings(open.slice(0, others ? MOST_MASKS : MOST_MASKS + 1).map(maskOf), others)}` : proved;
+}
+
+/** @param {CollectionObject} object */
+function grantedOfAll(object) {
+  const all = [...granted(!object.logs.some(({ hidden }) => hidden)), CARRIED,
+    `The catalogue is complete. It has ${count(object.items.length, "row")}: what isn't in it is never missed.`, PROVED];
+  return [folded(`What this takes for granted (${all.length})`, !object.status, bullets(all))];
+}
+
+/** @param {CollectionObject} object */
+function recordOfAll(object) {
+  const { counts, items, logs, files, version, answer, file, left = [] } = object;
+  const states = Object.entries(counts).flatMap(([state, number]) => number ? `${number.toLocaleString("en")} ${state}` : []);
+  const said = [count(items.length, "item"), ...states, count(logs.length, "log")].join("\u00A0· ");
+  const sums = files.map((it) => el("p", {}, `${printable(it.file)}${it.sha256 ? " · SHA-256 " : ""}`, el("code", {}, it.sha256)));
+  return el("footer", { class: "record" }, el("p", {}, said), el("p", {}, `vicinity ${version}: `, el("code", {}, printable(answer))), ...sums,
+    ...summaryOf(object).isUnsettled ? [el("p", { class: "signed" }, NO_RESULT)]
+      : signed([sayAll(object).headline, ...left, ...summaryOf(object).answered].join(" "), printable(file)));
+}

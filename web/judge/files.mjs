@@ -1,0 +1,101 @@
+/** What a file is, by its first bytes, and its text as the library takes it. */
+
+/** @typedef {{name: string, text: Uint8Array}} Given a file */
+/** @typedef {"log" | "surveys" | "table" | "other"} Kind */
+
+const SURVEYS = "vicinity-survey ", A_SURVEY = /^vicinity-survey \d+ ([^\r\n]*)/gm, A_LOG = /^\uFEFF?vicinity-/, MOST_SEEN = 4096;
+/** How a file of a spreadsheet program begins, read as UTF-8: packed as ZIP (.xlsx, .ods, .numbers), or as OLE has it (.xls). */
+const SPREADSHEET = /^(?:PK\x03\x04|\uFFFD\uFFFD\x11[\u0871\uFFFD])/;
+/** A PDF, or another file that is no text in any coding. */
+const NO_TEXT_AT_ALL = /^%PDF|^(?=[^]*\0)[^]*\uFFFD/;
+/** How the name of a table ends. */
+export const TABLE = /\.(csv|tsv|xlsx?|ods|numbers)$/i;
+/** How a second copy of a file is called by browsers and systems. */
+const COPIED = /^(?:Copy of )?(.+?)(?: ?\(\d+\)| ?- ?Copy(?: \(\d+\))?| copy(?: \d+)?)?$/i;
+
+/**
+ * Whether a text was that of a spreadsheet.
+ * @param {string} text
+ */
+export const isSpreadsheet = (text) => SPREADSHEET.test(text);
+
+/**
+ * A text in UTF-16 with its mark as UTF-8, or the start of one, which may end within a sign; any other one as it is.
+ * @param {Uint8Array} text
+ */
+export function utf8Of(text, isStart = false) {
+  const [one, other] = text, coding = one === 0xFF && other === 0xFE ? "utf-16le" : one === 0xFE && other === 0xFF ? "utf-16be" : "";
+  try {
+    return coding ? new TextEncoder().encode(new TextDecoder(coding, { fatal: true }).decode(text, { stream: isStart })) : text;
+  } catch { return text; }
+}
+
+/** @param {Given} file */
+export const startOf = ({ text }) => new TextDecoder("utf-8", { ignoreBOM: true }).decode(utf8Of(text.subarray(0, MOST_SEEN), true));
+
+/** @param {Given} file */
+const headsOf = (file) => startOf(file).replace("\uFEFF", "").split(/\r?\n/, 1)[0].replace(/"/g, "").split(/[,;\t|]/)
+  .map((head) => head.trim().toLowerCase());
+
+/**
+ * Whether a table says which UIDs items have.
+ * @param {Given} file
+ */
+export const hasUids = (file) => headsOf(file).includes("uid");
+
+/**
+ * Whether a table says which logs are of which place.
+ * @param {Given} file
+ */
+export const isPlaces = (file) => ["place", "log"].every((head) => headsOf(file).includes(head)) && !hasUids(file);
+
+/**
+ * Of what isn't a log or surveys, a table has a name or a column that says so.
+ * @param {Given} file
+ * @returns {Kind}
+ */
+export function kindOf(file) {
+  const start = startOf(file);
+  if (start.startsWith(SURVEYS)) return "surveys";
+  if (!file.text.length || A_LOG.test(start)) return "log";
+  return TABLE.test(file.name) || hasUids(file) || isPlaces(file) ? "table" : "other";
+}
+
+/**
+ * The names of the logs in a text of surveys.
+ * @param {Given} file
+ */
+export const surveyedIn = (file) => kindOf(file) !== "surveys" ? []
+  : Array.from(new TextDecoder().decode(file.text).matchAll(A_SURVEY), ([, name]) => name);
+
+/**
+ * Whether a file among others is neither a table nor a log in whatever coding.
+ * @param {Given} file
+ */
+export const isStrange = (file) => kindOf(file) === "other" && (isSpreadsheet(startOf(file)) || NO_TEXT_AT_ALL.test(startOf(file)));
+
+/**
+ * A name without folders and ending.
+ * @param {string} name
+ */
+export const stemOf = (name) => (name.split(/[/\\]/).pop() ?? "").replace(/(?!^)\.[^.]*$/, "");
+
+/**
+ * A name as it was before it was copied.
+ * @param {string} stem
+ */
+export const uncopied = (stem) => COPIED.exec(stem)?.[1] ?? stem;
+
+/**
+ * Which names are those of copies, or of later counts, of others: pairs of such a name and the other one.
+ * @param {string[]} names
+ * @returns {[string, string][]}
+ */
+export function copiesAmong(names) {
+  const found = /** @type {Map<string, string>} */ (new Map());
+  return [...names].sort((one, other) => one.length - other.length).flatMap((name) => {
+    const stem = stemOf(name), key = uncopied(stem), other = found.get(key);
+    if (other === undefined) found.set(key, name);
+    return other !== undefined && stemOf(other) !== stem ? [/** @type {[string, string]} */ ([name, other])] : [];
+  });
+}

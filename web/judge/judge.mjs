@@ -1,0 +1,139 @@
+/** Objects of logs and of collections: what the library writes of them, and what only who opens them knows. */
+import { isPlaces, kindOf, stemOf, surveyedIn, utf8Of } from "./files.mjs";
+import { hasUid, hex, maskOf } from "./frames.mjs";
+import { madeOnce } from "./groups.mjs";
+import { LF } from "./log.mjs";
+
+/** @typedef {import("./library.mjs").Library} Library */
+/** @typedef {import("./objects.mjs").LogObject} LogObject */
+/** @typedef {import("./objects.mjs").CollectionObject} CollectionObject */
+/** @typedef {import("./files.mjs").Given} Given */
+
+/** How much of a line is kept that was refused. */
+const MOST_QUOTED = 160, DECODED = new TextDecoder("utf-8", { ignoreBOM: true }), REFUSED = /^refused at line (\d+) of ([^]*): (\w+)\n$/;
+/** A line of a log's own list. */
+const LISTED = /^U (\w{16})/gm;
+
+/** A line for which a collection has no answer, or tables that are none of its files. */
+export class Refused extends Error {
+  /** @param {{name?: string, line?: number, fault?: string, quoted?: string, files: string[]}} what with the files that can be left out */
+  constructor(what) {
+    super("refused");
+    this.what = what;
+  }
+}
+
+/**
+ * @param {Library} library
+ * @param {Uint8Array} text
+ * @param {string} name
+ * @param {boolean} [isKept] whether its text is kept with it
+ * @returns {Promise<LogObject>}
+ */
+export async function judge(library, text, name, isKept = false) {
+  // which another thread works out meanwhile
+  const sum = sumOf(text), said = JSON.parse(DECODED.decode(library.run("json", [{ text }]).written));
+  const kept = !isKept ? "" : DECODED.decode(said.fault ? untilLine(text, said.line) : text);
+  return { ...said, version: versionOf(library.version), file: name, sha256: await sum, text: kept };
+}
+
+/**
+ * A collection, or why it is none.
+ * @param {Library} library
+ * @param {Given[]} files
+ * @returns {Promise<CollectionObject>}
+ */
+export async function judgeAll(library, files) {
+  const texts = files.map((file) => ({ name: file.name, text: kindOf(file) === "table" ? utf8Of(file.text) : file.text }));
+  const said = DECODED.decode(written(library, texts, files)), refused = said.match(REFUSED);
+  if (refused) throw new Refused(refusedIn(texts, Number(refused[1]), refused[2], refused[3]));
+  const object = JSON.parse(said), tables = files.filter((file) => kindOf(file) === "table");
+  const sums = new Map(await Promise.all(files.map(async ({ name, text }) => /** @type {const} */ ([name, await sumOf(text)]))));
+  shareLists([...object.items, ...object.unexpected]);
+  const denied = deniedIn(object, texts), surveys = new Map(files.flatMap((it) => surveyedIn(it).map((name) => [name, sums.get(it.name)])));
+  return { ...object, version: versionOf(library.version), file: tables.find((file) => !isPlaces(file))?.name ?? "",
+    files: tables.map(({ name }) => ({ file: name, sha256: sums.get(name) ?? "" })),
+    logs: object.logs.map((/** @type {{name: string}} */ log, /** @type {number} */ at) =>
+      ({ ...log, sha256: sums.get(log.name) ?? "", denied: denied[at], surveys: surveys.get(log.name) })) };
+}
+
+/**
+ * For each log the UIDs that are on its own list, and that it rules out.
+ * @param {CollectionObject} object
+ * @param {Given[]} texts
+ */
+function deniedIn({ items, unexpected, logs }, texts) {
+  const files = new Map(texts.map(({ name, text }) => [name, text]));
+  const listed = (/** @type {string} */ name) => [...DECODED.decode(files.get(name)).matchAll(LISTED)].map(([, uid]) => uid.toUpperCase());
+  const lists = logs.map(({ name, field }) => field === "possible" ? listed(name) : []);
+  const known = new Map(lists.flat().length ? [...items, ...unexpected].map((it) => [it.uid, it]) : []);
+  return lists.map((uids, at) => uids.filter((uid) => {
+    const it = known.get(uid), { open = [], more } = logs[at], number = BigInt(`0x${uid}`);
+    return it ? !it.certain_in.includes(at) && !it.possible_in.includes(at) : !more && !open.some((mask) => hasUid(maskOf(mask), number));
+  }));
+}
+
+/**
+ * Items with the same logs share one list of them: it is handed to the page once then.
+ * @param {Pick<import("../judge/objects.mjs").Item, "certain_in" | "possible_in">[]} items
+ */
+function shareLists(items) {
+  const lists = /** @type {Map<string, number[]>} */ (new Map()), shared = (/** @type {number[]} */ list) => madeOnce(lists, list.join(), () => list);
+  for (const item of items) Object.assign(item, { certain_in: shared(item.certain_in), possible_in: shared(item.possible_in) });
+}
+
+/**
+ * @param {Library} library
+ * @param {Given[]} texts
+ * @param {Given[]} files
+ */
+function written(library, texts, files) {
+  try {
+    return library.run("json-collection", texts).written;
+  } catch (error) {
+    if (!(error instanceof RangeError)) throw error;
+    throw new Refused({ files: files.filter((file) => kindOf(file) === "table").map(({ name }) => name) });
+  }
+}
+
+/**
+ * @param {Given[]} texts
+ * @param {number} line
+ * @param {string} name
+ * @param {string} fault
+ */
+function refusedIn(texts, line, name, fault) {
+  const text = texts.find((it) => it.name === name)?.text ?? new Uint8Array();
+  return { name, line, fault, files: texts.flatMap(({ name: it }) => it === name || fault === "SameName" && stemOf(it) === stemOf(name) ? it : []),
+    quoted: DECODED.decode(untilLine(text, line).subarray(lineAt(text, line))).trimEnd() };
+}
+
+/**
+ * Where a line begins.
+ * @param {Uint8Array} text
+ * @param {number} line
+ */
+function lineAt(text, line) {
+  let start = 0;
+  for (let number = 1; number < line; number++) start = text.indexOf(LF, start) + 1;
+  return start;
+}
+
+/**
+ * A text as far as a line, of which the beginning is kept.
+ * @param {Uint8Array} text
+ * @param {number} line
+ */
+function untilLine(text, line) {
+  const start = lineAt(text, line), end = text.indexOf(LF, start);
+  return text.subarray(0, Math.min(end < 0 ? text.length : end + 1, start + MOST_QUOTED));
+}
+
+/** @param {number} number as the library gives it */
+const versionOf = (number) => [Math.floor(number / 10000), Math.floor(number / 100) % 100, number % 100].join(".");
+
+/** @param {Uint8Array} text */
+async function sumOf(text) {
+  if (!globalThis.crypto?.subtle) return "";
+  return Array.from(new Uint8Array(await crypto.subtle.digest("SHA-256", text)), (byte) => hex(byte, 2)).join("").toLowerCase();
+}

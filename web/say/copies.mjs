@@ -1,0 +1,226 @@
+/** Which logs of a collection may not count: copies, older ones, those of another day, and those that prove the same tags. */
+import { copiesAmong, stemOf, uncopied } from "../judge/files.mjs";
+import { grouped } from "../judge/groups.mjs";
+import { firstOf, MOST_LISTED, nameOf } from "./shelves.mjs";
+import { count, dated, printable } from "./words.mjs";
+
+/** @typedef {import("../judge/objects.mjs").CollectionObject} CollectionObject */
+/** @typedef {import("./shelves.mjs").Shelves} Shelves */
+/** @typedef {[string, Record<string, string>]} Button what it says and carries */
+/**
+ * In a few words, in a sentence, and what to do; whether a headline says it that isn't complete, and
+ * whether one of the logs may not count; buttons, of which each leaves out one of some logs, or says that it counts, or of which place; and
+ * the numbers of logs that may be of another place; the places of which it is asked whether a log is theirs.
+ * @typedef {{short: string, words: string, cure: string, isFirst?: boolean, mayNotCount?: boolean, buttons?: Button[], logs?: string[],
+ *   places?: string[], numbers?: number[]}} Doubt
+ */
+
+/** Of how many logs each has a button, by how much files of one count may differ, in ms, and how many tags are named that two logs prove. */
+const MOST_LEFT = 4, HALF_A_DAY = 43_200_000, MOST_TAGS = 5;
+const MOVED = "What moved in between isn't seen: count there again, or say that its file was only copied.";
+const COUNTS = "If the newer one counts, open it once more.", ALL_COUNT = "If the newer ones count, open them once more.";
+const IF_THEIRS = "If these are their logs, press the button; else write a table of places, with the columns place and log.";
+const ONE_FILE = "One is a copy: leave out that of the shelf that wasn't counted, and count there.";
+const OLDER = "may be an older log of the same shelf: leave out the older.";
+const OVERLAP = "The fields of two readers may overlap. If not, a log is an older one, or items were carried in between: count these fields again.";
+const WHICH = "Of one field only one log counts: press that.";
+
+/**
+ * Logs with tags that are the same, byte for byte: of so many shelves but one wasn't counted.
+ * @param {CollectionObject} object
+ * @param {string[]} asked the logs of which it is asked already
+ * @returns {Doubt[]}
+ */
+export const same = ({ logs }, asked) => [...grouped(logs.filter((log) => log.sha256 && log.certain), (log) => log.sha256).values()]
+  .filter((its) => its.length > 1 && !its.every(({ name }) => asked.includes(name))).map((its) => {
+    const numbers = its.map((it) => logs.indexOf(it)), names = firstOf(its.map(({ name }) => nameOf(name)), "and", MOST_LISTED);
+    return { short: `${names} are one file`, isFirst: true, mayNotCount: true, numbers, cure: ONE_FILE,
+      words: `${names} are the same, byte for byte.`, ...leaving(its.length > MOST_LEFT ? [] : its) };
+  });
+
+/**
+ * Logs that are called like copies of others, unless each has a place of its own.
+ * @param {CollectionObject} object
+ * @param {Shelves} shelves
+ * @returns {Doubt[]}
+ */
+export function copies({ logs }, { isAsked }) {
+  const named = new Map(logs.map((log) => [log.name, log])), isPlaced = (/** @type {string} */ name) => named.get(name)?.place !== null;
+  const asked = copiesAmong([...named.keys()]).filter((pair) => !pair.every(isPlaced));
+  return asked.map(([later, first]) => {
+    const [of, ofOther] = [later, first].map((name) => dated(named.get(name)?.changed)), one = nameOf(later), other = nameOf(first);
+    const when = (/** @type {string} */ date) => date && of !== ofOther ? ` of ${date}` : "";
+    const heard = (/** @type {string} */ name) => `${nameOf(name)} (${count(named.get(name)?.certain ?? 0, "tag")})`;
+    const buttons = /** @type {Button[]} */ ([[`Only ${other}${when(ofOther)}`, { "data-leave": later, "data-kept": first }],
+      [`Only ${one}${when(of)}`, { "data-leave": first, "data-kept": later }], ["Both: they are of different fields", { "data-both": later }]]);
+    // where places are asked for, one of no place counts nowhere
+    return { short: `say whether ${other} or ${one} counts`, isFirst: true, mayNotCount: true, cure: WHICH, logs: [later, first],
+      words: `By its name, ${heard(later)} may be a later count than ${heard(first)}, or a copy.`, buttons: buttons.slice(0, isAsked ? 2 : 3) };
+  });
+}
+
+/**
+ * Logs of no place that may be those of a place that has none, by their names, or as all that was heard in them belongs there. With a
+ * table of places a log is of none but by that, nor is it without if no file can be called like the place.
+ * @param {CollectionObject} object
+ * @returns {Doubt[]}
+ */
+export function ofAPlace({ logs, items, unexpected, files, without_log }) {
+  const places = without_log.filter((place) => files.length < 2 && stemOf(`${place}.log`) === place);
+  const homes = logs.map(() => /** @type {Set<string | null>} */ (new Set()));
+  for (const it of [...items, ...unexpected]) for (const at of it.certain_in) homes[at].add("place" in it ? it.place : null);
+  const found = logs.flatMap(({ name, left_over }, at) => {
+    const called = uncopied(stemOf(name)), isCopy = called !== stemOf(name) && places.includes(called);
+    const [place] = isCopy ? [called] : homes[at].size === 1 ? places.filter((it) => homes[at].has(it)) : [];
+    return left_over && place ? [{ name, place, isCopy }] : [];
+  });
+  const sure = [...grouped(found, ({ place }) => place).values()].flatMap((its) => its.length > 1 ? [] : its), of = count(sure.length, "place");
+  if (found.length > MOST_LEFT) return sure.length < 2 ? [] : [{ short: `no log of ${of}, unless ${sure.length} of other names are theirs`,
+    isFirst: true, mayNotCount: true, logs: sure.map(({ name }) => name), places: sure.map(({ place }) => place), cure: IF_THEIRS,
+    words: `No log of ${of}: but all that was heard in each of as many logs belongs to one of these, as in ` +
+      `${firstOf(sure.map(({ name, place }) => `${nameOf(name)} to ${printable(place)}`), "and", MOST_LISTED)}.`,
+    buttons: [[`Count these ${sure.length} logs as those of their tags' places`, { "data-as": sure.map(({ place }) => `${place}.log`).join("\n"),
+      "data-kept": sure.map(({ name }) => name).join("\n") }]] }];
+  return found.map(({ name, place, isCopy }) => {
+    const one = nameOf(name), where = printable(place);
+    return { short: `no log of ${where}, unless ${one} is it`, isFirst: true, mayNotCount: true, logs: [name], places: [place],
+      cure: "If it is its log, press the button; else leave it out.",
+      words: isCopy ? `By its name, ${one} is a copy of the log of ${where}, which isn't here.`
+        : `No log of ${where}: but all that was heard in ${one} belongs there.`,
+      buttons: [[`Count it as ${where}`, { "data-as": `${place}.log`, "data-kept": name }], [`Leave out ${one}`, { "data-leave": name }]] };
+  });
+}
+
+/**
+ * Logs of which all that was heard, two tags or more, belongs to one other place and isn't there; where of a log of that place the same is so,
+ * both in one.
+ * @param {CollectionObject} object
+ * @returns {Doubt[]}
+ */
+export function interchanged({ logs, items }) {
+  const misplaced = items.filter(({ state }) => state === "misplaced").flatMap(({ certain_in: its, place }) => its.map((at) => ({ at, place })));
+  const heard = grouped(misplaced, ({ at }) => at), homes = logs.map(({ place, certain = 0 }, at) => {
+    const all = heard.get(at) ?? [], home = all[0]?.place ?? null;
+    return place !== null && certain > 1 && all.length === certain && all.every((it) => it.place === home) ? home : null;
+  });
+  return logs.flatMap(({ place, name, certain = 0 }, at) => {
+    const home = homes[at], other = home === null ? -1 : logs.findIndex((log, it) => log.place === home && homes[it] === place);
+    const one = printable(place ?? ""), where = printable(home ?? ""), isBoth = other >= 0, numbers = isBoth ? [at, other] : [at];
+    if (home === null || isBoth && other < at) return [];
+    const key = `${numbers.map((it) => olderOne(logs[it])).join()} is of ${place}`;
+    const swap = /** @type {Button[]} */ (isBoth ? [["Count each as the other", { "data-as": logs[other].name, "data-kept": name }]] : []);
+    return [{ isFirst: true, mayNotCount: true, logs: [name], numbers,
+      short: isBoth ? `say whether the logs of ${one} and ${where} were interchanged` : `say whether the log of ${one} is that of ${where}`,
+      words: `All ${count(certain, "tag")} in the log of ${one} belong to ${where}${isBoth ? `, and all in its log to ${one}` : ""}.`,
+      cure: isBoth ? "Were the two interchanged?" : `If it is the log of ${where}, close all, and open it under the name of that.`,
+      buttons: [...swap, [`No: ${isBoth ? "each" : "it"} is of its place`, { "data-both": key }]] }];
+  });
+}
+
+/**
+ * By what a file is known of which something is said: one with other bytes, or beside a newer one, is asked about anew.
+ * @param {CollectionObject["logs"][number]} log
+ */
+const olderOne = ({ name, changed, newer = 0, sha256, surveys }) => `${name} of ${changed}, not of ${newer}: ${sha256 || surveys}`;
+
+/**
+ * Logs that took the place of newer files of the same names: those of which it was said that they count, and the others.
+ * @param {CollectionObject} object
+ * @param {Shelves} shelves
+ * @returns {Doubt[]}
+ */
+export function older({ logs, both = [] }, shelves) {
+  const groups = grouped([...logs.keys()].filter((at) => logs[at].newer), (at) => both.includes(olderOne(logs[at])));
+  return [...groups.values()].map((its) => {
+    const all = its.map((at) => logs[at]), [{ name, changed, newer }] = all, isOne = its.length === 1, first = nameOf(name);
+    const isNear = dated(changed) === dated(newer), when = (/** @type {number | undefined} */ time) => dated(time, isNear);
+    const files = firstOf(all.map((it) => nameOf(it.name)), "and", MOST_LISTED), of = firstOf(its.map((at) => shelves.name(at)));
+    return { mayNotCount: true, logs: all.map((it) => it.name), cure: isOne ? COUNTS : ALL_COUNT,
+      short: isOne ? `the log of ${of} is older than the one it replaced` : `the logs of ${of} are older than those they replaced`,
+      words: isOne ? `${first} of ${when(changed)} is older than the file that it replaced, of ${when(newer)}.`
+        : `${files} are older than the files that they replaced: ${first} is of ${when(changed)}, the other one of ${when(newer)}.`,
+      buttons: [[`The older one${isOne ? " counts" : "s count"}`, { "data-both": all.map(olderOne).join("\n") }]] };
+  });
+}
+
+/**
+ * Logs whose files are more than half a day older than the newest one.
+ * @param {CollectionObject} object
+ * @param {Shelves} shelves
+ * @returns {Doubt[]}
+ */
+export function ofOtherDays({ logs, both = [] }, shelves) {
+  const newest = Math.max(0, ...logs.map(({ changed = 0 }) => changed));
+  const isAsked = (/** @type {number} */ at) => logs[at].newer && !both.includes(olderOne(logs[at]));
+  const late = [...logs.keys()].filter((at) => (logs[at].changed ?? newest) < newest - HALF_A_DAY && !isAsked(at));
+  const those = late.map((at) => logs[at]), names = late.map((at) => shelves.name(at));
+  const key = [newest, ...those.map(olderOne)].join(), isOne = late.length === 1;
+  const [log, is, they] = isOne ? ["log", "is", "It is"] : ["logs", "are", "They are"];
+  const other = `${isOne ? "its file" : `the file of ${names[0]}`} is of ${dated(those[0]?.changed)}, the newest of ${dated(newest)}`;
+  return !late.length ? [] : [{ short: `the ${log} of ${firstOf(names)} ${is} more than 12 hours older`, mayNotCount: true,
+    words: `The ${log} of ${firstOf(names, "and", MOST_LISTED)} ${is} older than the others: ${other}.`,
+    cure: MOVED, ...leaving(those, [[`${they} of this count`, { "data-both": key }]]) }];
+}
+
+/**
+ * Logs that prove tags which another proves too, those first of which most are so; of two one is said, and nothing of copies of which it is asked.
+ * @param {CollectionObject} object
+ * @param {Shelves} shelves
+ * @param {string[]} asked
+ * @returns {Doubt[]}
+ */
+export function shared({ logs, items, unexpected }, shelves, asked) {
+  const others = logs.map(() => /** @type {Set<number>} */ (new Set())), said = new Set(), atHome = new Set();
+  const many = [...items, ...unexpected].filter(({ certain_in: its }) => its.length > 1);
+  for (const { certain_in: [first, ...rest] } of many) for (const at of rest) others[at].add(first) && others[first].add(at);
+  for (const it of many) for (const at of it.certain_in) if ("place" in it && it.place === logs[at].place) atHome.add(at);
+  // where nothing else was heard, and nothing that belongs there, perhaps that field wasn't counted
+  const isAlien = (/** @type {number} */ at) => share(at) === 1 && (logs[at].certain ?? 0) > 1 && logs[at].place !== null && !atHome.has(at);
+  const share = (/** @type {number} */ at) => (logs[at].shared ?? 0) / (logs[at].certain || 1);
+  const isAsked = (/** @type {number} */ at) => asked.includes(logs[at].name);
+  const ordered = [...logs.keys()].filter((at) => logs[at].shared)
+    .sort((one, other) => Number(isAlien(other)) - Number(isAlien(one)) || share(other) - share(one) || other - one);
+  return ordered.flatMap((at) => {
+    const { shared: number = 0, certain = 0 } = logs[at], all = number === certain, is = number === 1 ? "is" : "are";
+    if ([...others[at]].every((other) => said.has(other) || isAsked(other) && isAsked(at))) return [];
+    said.add(at);
+    const proved = count(certain, "tag"), some = all ? `All ${proved}` : `${number.toLocaleString("en")} of the ${proved}`;
+    const those = [at, ...others[at]].sort((one, other) => one - other), names = shelves.apart(those), name = names[those.indexOf(at)];
+    const tags = many.filter(({ certain_in: its }) => its.includes(at)).map((it) => printable("cells" in it && shelves.said(it, 1) || it.uid || ""));
+    // of one shelf that which proves fewer may be the newer one, after a loss; one of another place is no older one
+    const ofOne = those.map((it) => logs[it]).filter((one, _, all) => all.some((it) => it !== one &&
+      (it.place === one.place || it.left_over || one.left_over)));
+    const isOlder = all && certain > 1 && ofOne.length > 1, key = those.map((it) => olderOne(logs[it])).join();
+    const overlap = those.some((it) => logs[it].left_over) ? {} : { buttons: [/** @type {Button} */ (["The fields overlap", { "data-both": key }])] };
+    const buttons = !isOlder ? overlap : ofOne.length <= MOST_LEFT ? leaving(ofOne) : {};
+    return [{ short: `${count(number, "tag")} ${is} in ${those.length === 2 ? "both" : "several of"} ${firstOf(names)}`, mayNotCount: true,
+      cure: isOlder ? `One of ${those.length === 2 ? "the two" : "these"} ${OLDER}` : OVERLAP, ...buttons,
+      ...isAlien(at) ? { isFirst: true, numbers: [at] } : {},
+      words: `${certain > 1 ? some : "The tag"} that ${name} proves ${is} proved by ${firstOf(names.filter((it) => it !== name))} too: ` +
+        `${firstOf(tags, "and", MOST_TAGS)}.` }];
+  });
+}
+
+/**
+ * What buttons say that leave files out, the oldest first; of several, with when each was changed, where these differ.
+ * @template {{name: string, changed?: number}} Left
+ * @param {Left[]} files
+ * @returns {[string, Left][]}
+ */
+export function leaveOut(files) {
+  const sorted = [...files].sort((one, other) => (one.changed ?? 0) - (other.changed ?? 0)), dates = sorted.map(({ changed }) => dated(changed));
+  const isDated = new Set(dates).size > 1 && !dates.includes(""), old = files.length > 2 ? "oldest" : "older";
+  const when = (/** @type {number} */ at) => at ? ` of ${dates[at]}` : `, the ${old} file, of ${dates[at]}`;
+  return sorted.map((file, at) => [`Leave out ${nameOf(file.name)}${isDated ? when(at) : ""}`, file]);
+}
+
+/**
+ * @param {{name: string, changed?: number}[]} logs
+ * @param {Button[]} more
+ * @returns {Pick<Doubt, "buttons" | "logs">}
+ */
+export function leaving(logs, more = []) {
+  const names = logs.map(({ name }) => name), all = names.length > MOST_LEFT ? [`Leave out these ${names.length} logs`, names.join("\n")] : [];
+  const each = all.length ? [all] : leaveOut(logs).map(([words, { name }]) => [words, name]);
+  return { logs: names, buttons: [...each.map(([words, leave]) => /** @type {Button} */ ([words, { "data-leave": leave }])), ...more] };
+}
