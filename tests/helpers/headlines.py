@@ -105,14 +105,17 @@ def light_says_too_much(said, log):
 
 # Collections.
 
-KINDS = {"missing": "missing", "not heard on": "not provable", "not known yet": "not provable",
+KINDS = {"missing": "missing", "may be missing": "missing",
+         "not heard on": "not provable", "not known yet": "not provable",
          "in the wrong place": "misplaced", "may be in the wrong place": "misplaced",
-         "heard in a log of no place": "misplaced",
+         "heard in a log of no place": "misplaced", "heard in logs of no place": "misplaced",
          "not in the catalogue": "unexpected", "back that should be away": "returned",
          "not counted": "not counted", "without a tag": "no tag"}
-ALL_HERE = re.compile(rf"All {NUMBER} expected items are (?:here|in some log)"
-                      r"|The one expected item is (?:here|in some log)"
-                      r"|Nothing is expected here, and no tag answered")
+ALL_HERE = re.compile(rf"^All {NUMBER} expected items are (?:here|in some log)"
+                      r"|^The one expected item is (?:here|in some log)"
+                      r"|^Nothing is expected here, and no tag answered"
+                      rf"|\bTogether the logs have all {NUMBER} expected items\."
+                      r"|\bTogether the logs have the one expected item\.")
 
 
 def collection_says_too_much(said):
@@ -121,8 +124,9 @@ def collection_says_too_much(said):
     counts, logs = told["counts"], told["logs"]
     here, is_complete = counts["in place"] + counts["there"], told["status"] == 0
     wanted = {state: counts[state] for state in KINDS.values() if counts[state]}
-    if is_all := ALL_HERE.match(headline):
-        number = number_in(is_all[1]) if is_all[1] else "one" in is_all[0]
+    if is_all := ALL_HERE.search(headline):
+        said_number = is_all[1] or is_all[2]
+        number = number_in(said_number) if said_number else "one" in is_all[0]
         if number != here or wanted.keys() - {"no tag"}:
             return is_all[0]
         if "no other" in headline and (not is_complete or any(log["hidden"] for log in logs)):
@@ -131,9 +135,9 @@ def collection_says_too_much(said):
             return "no others, though a reader may have gone deaf"
         if is_complete and any(log["hidden"] for log in logs) and HIDDEN not in headline:
             return f"it lacks {HIDDEN!r}"
-    if is_complete:
+    if is_complete and is_all:
         has_untagged = bool(re.search(r"ha(s|ve) no tag\b", headline))
-        return None if is_all and has_untagged == bool(counts["no tag"]) else "complete"
+        return None if has_untagged == bool(counts["no tag"]) else "whether an item has no tag"
     told_of = dict.fromkeys(wanted, 0)
     for number, kind in re.findall(rf"{NUMBER} (?:items? )?({'|'.join(KINDS)})", headline):
         told_of[KINDS[kind]] = told_of.get(KINDS[kind], 0) + number_in(number)
@@ -142,5 +146,6 @@ def collection_says_too_much(said):
     lacking = [words for words, is_so in (
         (" again", any(log["field"] != "possible" or log["open"] for log in logs)),
         ("o log of ", told["without_log"]),
-        (" of no place", any(log["left_over"] for log in logs))) if is_so and words not in headline]
+        (" of no place| unless .* is it", any(log["left_over"] for log in logs)))
+        if is_so and not re.search(words, headline)]
     return f"it lacks {lacking}" if lacking else None
