@@ -215,12 +215,20 @@ class Asked(Command):
 
     def test_options_that_are_gone(self):
         catalogue = self.catalogue("uid\nnone\n")
-        for gone in ("--tags", "--column", "--place", "--places", "--encoding", "--expected",
-                     "--surveys", "--strict", "--sep"):
+        for gone, hint in (
+                ("--tags", ": join the tables first: see COLLECTIONS"), ("--expected", ""),
+                ("--column", ": columns have fixed names, uid and place: see TABLES"),
+                ("--place", ": columns have fixed names, uid and place: see TABLES"),
+                ("--places", ": a table with columns place and log stands behind the catalogue: "
+                             "see TABLES"), ("--strict", ""),
+                ("--surveys", ": the text of a survey stands among the logs: see COLLECTIONS"),
+                ("--encoding", ": save the table as CSV UTF-8: see TABLES"),
+                ("--sep", ": save the table as CSV UTF-8: see TABLES")):
             for words in ([gone, "x"], [f"{gone}=x"]):
                 said, errors, status = within("collection", catalogue, *words)
                 self.assertEqual((said, status), (b"", 4))
-                self.assertIn(f"unrecognized arguments: {words[0]}", errors.decode())
+                self.assertEqual(errors.decode().splitlines()[0],
+                                 f"vicinity: unrecognized arguments: {' '.join(words)}{hint}")
         self.assertEqual(within("collection", catalogue, "--", "--tags")[1:], (
             b"vicinity: cannot read --tags: No such file or directory\n", 4))
 

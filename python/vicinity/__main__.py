@@ -2,6 +2,7 @@
 and `COMMAND --help` explains one."""
 import argparse
 import os
+import re
 import sys
 from contextlib import suppress
 from importlib import import_module
@@ -60,7 +61,9 @@ class Parser(argparse.ArgumentParser):
         return arguments
 
     def error(self, message: str) -> NoReturn:
-        raise NoAnswer(f"{shown(message)}\n{self.format_usage().rstrip()}")
+        option = re.split("[ =]", message.removeprefix("unrecognized arguments: "))[0]
+        hint = f": {GONE[option]}" if option in GONE else ""
+        raise NoAnswer(f"{shown(message)}{hint}\n{self.format_usage().rstrip()}")
 
     def _print_message(self, message: str, file: Any = None) -> None:
         """Help and version, which argparse would write to sys.stdout."""
@@ -82,6 +85,11 @@ MOST_MARGIN = 999_999
 GONE = {name: f"it is a command of the program: vicinity {name}"
         for name in ("explain", "frame", "margin", "simulate", "spell", "survey")}
 GONE["reconcile"] = "use collection CATALOGUE [PLACES] LOG .., or vicinity reconcile for a list"
+GONE["--tags"] = "join the tables first: see COLLECTIONS"
+GONE["--column"] = GONE["--place"] = "columns have fixed names, uid and place: see TABLES"
+GONE["--places"] = "a table with columns place and log stands behind the catalogue: see TABLES"
+GONE["--surveys"] = "the text of a survey stands among the logs: see COLLECTIONS"
+GONE["--encoding"] = GONE["--sep"] = "save the table as CSV UTF-8: see TABLES"
 
 
 def parsers() -> tuple[Parser, Mapping[str, Parser]]:
