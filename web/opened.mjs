@@ -1,5 +1,5 @@
 /** What is opened: files as logs, each with its text, or together a collection, which has none of its own. */
-import { hasUids, isPlaces, isSpreadsheet, isStrange, kindOf, startOf, stemOf, surveyedIn } from "./judge/files.mjs";
+import { hasUids, isPlaces, isSpreadsheet, isStrange, kindOf, logsNamed, nameIn, startOf, stemOf, surveyedIn } from "./judge/files.mjs";
 import { grouped } from "./judge/groups.mjs";
 import { firstOf, MOST_LISTED } from "./say/shelves.mjs";
 import { count, listing, printable } from "./say/words.mjs";
@@ -7,14 +7,15 @@ import { STOPPED } from "./work.mjs";
 
 /** @typedef {import("./judge/files.mjs").Given} Given */
 /** @typedef {import("./judge/objects.mjs").CollectionObject} CollectionObject */
-/** @typedef {{name: string, how: string, names: string[], changed?: number}} Left what isn't here any more: how it left, if that is said as
- *   long as it isn't back, else when it was changed, of which what has one of its names may be an older file */
-/** @typedef {{tables: Entry[], logs: Entry[], both: string[], left: Left[]}} Collection with what was answered of its logs */
+/** @typedef {{name: string, how: string, keys: string[], changed?: number}} Left what isn't here any more: how it left, if that is said as
+ *   long as it isn't back; and when it was changed: what has one of its keys may be an older file */
+/** @typedef {{tables: Entry[], logs: Entry[], both: string[], left: Left[], before: Left[]}} Collection with what was answered of its files;
+ *   `before` are the tables that others have replaced */
 /**
  * A log, or a collection, with what was done to it last; or one that waits for its catalogue. Of a file it has when that was changed,
- * and its own name, if it took another; of one by itself, what isn't here any more.
+ * and its own name, if it took another; of one by itself, what isn't here any more, and what was answered.
  * @typedef {Given & import("./work.mjs").Done & {given?: Collection, waits?: string, note?: string,
- *   said?: import("./say/say.mjs").Said, changed?: number, was?: string, left?: Left[]}} Entry
+ *   said?: import("./say/say.mjs").Said, changed?: number, was?: string, left?: Left[], both?: string[]}} Entry
  */
 
 /** Larger files are no logs, and no text for each browser. */
@@ -28,7 +29,7 @@ const CONTROL = /[\0-\x1F\x7F]/g, NO_TEXTS = "Leave out what doesn't belong here
 /** Of how many logs it is said each that they count by other names. */
 const MOST_SAID_EACH = 4, NO_CATALOGUE = "Now open the catalogue: a table (CSV) with a column uid.";
 /** What is pasted has no name by which it could be of a place. The example leaves with the first file that is opened, and joins none. */
-export const PASTED = "pasted text", EXAMPLE = "the example";
+export const PASTED = "pasted text", EXAMPLE = "the example", BY_BUTTON = "left out";
 
 /** @param {Entry} entry */
 export const isUnanswered = ({ told, collection, error, waits }) => !told && !collection && !error && !waits;
@@ -79,12 +80,23 @@ function sameAs(list, others) {
 const stemsOf = ({ name, was = name }) => [stemOf(name), stemOf(was)];
 
 /**
+ * What else has one of these may be another count of the same, or another version: a log has its names, and those of what was surveyed.
+ * @param {Entry} entry
+ */
+const keysOf = (entry) => isATable(entry) ? [`${stemOf(entry.name)}/`] : [...stemsOf(entry), ...surveyedIn(entry).map(stemOf)];
+/**
+ * The one that each table of its kind has.
+ * @param {Entry} table
+ */
+const kindKey = (table) => `/${isPlaces(table)}`;
+
+/**
  * Files that leave.
  * @param {Entry[]} list
  * @param {(file: Entry) => string} [how] nothing if it isn't said of each
  */
 const leftAs = (list, how = () => "") => list.map((it) => /** @type {Left} */ (
-  { name: it.was ?? it.name, how: how(it), names: [it.name, it.was ?? it.name, ...surveyedIn(it)], changed: it.changed }));
+  { name: it.was ?? it.name, how: how(it), keys: keysOf(it), changed: it.changed }));
 
 /**
  * What was opened, as it is judged. Logs join others. Tables, or logs beside a collection that is here, belong to what is here, and what
@@ -105,8 +117,8 @@ export function gathered(taken, entries) {
   const tables = rest.filter(isATable), logs = rest.filter((it) => !isATable(it));
   const isJoining = !isWhole && (earlier || !logs.length) && logs.every((it) => !isPasted(it)), isLoose = !tables.length && !(isJoining && earlier);
   const what = earlier ? `${first.name}, ${count(before.length, "log")}` : firstOf(before.map(({ name }) => name), "and", MOST_LISTED);
-  const isClosed = first && !isJoining && (earlier || !isLoose), closed = { name: `What was here (${what})`, how: "closed", names: [] };
-  const over = isClosed ? [...past.filter(({ how }) => !how), ...leftAs(before), ...earlier ? [] : [closed]] : past;
+  const isClosed = first && !isJoining && (earlier || !isLoose), closed = { name: `What was here (${what})`, how: "closed", keys: [] };
+  const over = isClosed ? [...past.filter(({ how }) => !how), ...leftAs([...before, ...earlier?.tables ?? []]), ...earlier ? [] : [closed]] : past;
   const note = isClosed ? `${wasEach([closed])[0]} ` : "";
   if (isLoose) {
     const gone = isClosed ? [] : sameAs(entries, logs), words = note || replacing(gone, logs), all = [...over, ...leftAs(gone)];
@@ -115,8 +127,8 @@ export function gathered(taken, entries) {
   }
   const others = isJoining && !earlier ? entries : [], [unnamed, strange] = [others.filter(isPasted), others.filter(isStrange)];
   const more = [...left, ...leftAs(unnamed, () => "left out: what is pasted has no name"), ...leftAs(strange, () => `left out: ${NO_LOG}`)];
-  return [joined({ ...isJoining && earlier || { tables: [], both: [], logs: others.filter((it) => !unnamed.includes(it) && !strange.includes(it)) },
-    left: [...over, ...more] }, tables, logs, [note, ...wasEach(more)].join(" "), first)];
+  const none = { tables: [], before: [], both: others.flatMap(({ both = [] }) => both) }, kept = others.filter((it) => !unnamed.includes(it) && !strange.includes(it));
+  return [joined({ ...isJoining && earlier || { ...none, logs: kept }, left: [...over, ...more] }, tables, logs, [note, ...wasEach(more)].join(" "), first)];
 }
 
 /**
@@ -170,6 +182,7 @@ function joined(here, tables, logs, note, first) {
     (replacing(replaced, logs) || (more.length ? `${namesOf(more)} joined the logs that were here.` : ""));
   const isBack = (/** @type {Left} */ one) => [...logs, ...tables].some((it) => it.name === one.name && (it.changed ?? 0) >= (one.changed ?? 0));
   return collected({ tables: [...here.tables.filter((table) => !gone.includes(table)), ...tables], logs: [...kept, ...logs], both: here.both,
+    before: [...here.before, ...leftAs(gone).map((it, at) => ({ ...it, keys: [kindKey(gone[at])] }))],
     left: [...here.left.filter((it) => !it.how || !isBack(it)), ...leftAs(replaced)] }, said.trimEnd());
 }
 
@@ -182,13 +195,13 @@ function joined(here, tables, logs, note, first) {
  * @param {CollectionObject} [object]
  * @returns {Entry[]}
  */
-export function without({ tables, logs, both, left }, gone, kept, object) {
+export function without({ tables, logs, both, left, before }, gone, kept, object) {
   const of = (/** @type {string | undefined} */ name) => object?.logs.find((log) => log.name === name), [{ name }] = gone;
   const others = (/** @type {Entry[]} */ list) => list.filter((it) => !gone.includes(it)), takes = of(kept)?.left_over && of(name)?.place;
-  const out = leftAs(gone, () => "left out");
-  const rest = { tables: others(tables), both, left: [...left, ...out], logs: calledAs(others(logs), takes && kept ? [[kept, name]] : []) };
+  const out = leftAs(gone, () => BY_BUTTON);
+  const rest = { tables: others(tables), both, before, left: [...left, ...out], logs: calledAs(others(logs), takes && kept ? [[kept, name]] : []) };
   return rest.tables.length ? [collected(rest, [...wasEach(out), ...asOthers(rest.logs, takes ? [name] : [])].join(" "))]
-    : rest.logs.map((log) => ({ ...log, left: rest.left }));
+    : rest.logs.map((log) => ({ ...log, left: rest.left, both }));
 }
 
 /**
@@ -201,6 +214,15 @@ export function counted(given, names, as) {
   const logs = calledAs(given.logs, names.flatMap((name, at) => [[name, as[at]], [as[at], name]]));
   return collected({ ...given, logs }, asOthers(logs, [...names, ...as]).join(" "));
 }
+
+/**
+ * What is judged anew, with answers.
+ * @param {Entry} entry
+ * @param {string[]} keys of the questions
+ * @returns {Entry}
+ */
+export const answered = (entry, keys) => entry.given ? collected({ ...entry.given, both: [...entry.given.both, ...keys] })
+  : { ...entry, told: undefined, said: undefined, both: [...entry.both ?? [], ...keys] };
 
 /**
  * Logs of which some have other names.
@@ -225,17 +247,47 @@ function asOthers(logs, names) {
  * @param {CollectionObject} object
  * @param {Collection} given
  */
-export function withFiles(object, { logs, both, left }) {
+export function withFiles(object, { tables, logs, both, left, before }) {
   Object.assign(object, { both, left: [...wasEach(left), ...asOthers(logs, logs.map(({ name }) => name))] });
   const files = new Map(logs.flatMap((it) => (kindOf(it) === "surveys" ? surveyedIn(it) : [it.name]).map((name) => [name, it])));
-  const dates = /** @type {Map<string, number>} */ (new Map());
-  for (const { how, names, changed = 0 } of left) for (const stem of how ? [] : names.map(stemOf))
-    dates.set(stem, Math.max(dates.get(stem) ?? 0, changed));
+  const dates = datesOf([...left, ...before]), out = new Set(left.flatMap(({ how, keys }) => how === BY_BUTTON ? keys : []));
+  for (const [at, table] of tables.entries()) Object.assign(object.files[at], ageOf(table, [...keysOf(table), kindKey(table)], dates));
   for (const log of object.logs) {
-    const file = files.get(log.name) ?? log, { was, changed } = file;
-    const newest = Math.max(...[log, file].flatMap(stemsOf).map((stem) => dates.get(stem) ?? 0));
-    Object.assign(log, { was, changed, newer: newest > (changed ?? newest) ? newest : undefined });
+    const file = files.get(log.name) ?? log;
+    Object.assign(log, { was: file.was, ...ageOf(file, [log, file].flatMap(stemsOf), dates) });
   }
+  const named = tables.filter(isPlaces).flatMap(logsNamed), known = new Set(named.map(({ log }) => log));
+  const here = new Set(object.logs.map(({ name }) => nameIn(name, known))), places = new Set(object.logs.map(({ place }) => place));
+  object.unread = named.filter(({ place, log }) => places.has(place) && !here.has(log) && !out.has(stemOf(log)));
+}
+
+/**
+ * A log by itself with what is known of its file.
+ * @param {import("./judge/objects.mjs").LogObject} object
+ * @param {Entry} entry
+ */
+export const withFile = (object, entry) =>
+  Object.assign(object, { both: entry.both, ...ageOf(entry, keysOf(entry), datesOf(entry.left ?? [])) });
+
+/**
+ * When the newest of files was changed that had a key.
+ * @param {Left[]} left
+ */
+function datesOf(left) {
+  const dates = /** @type {Map<string, number>} */ (new Map());
+  for (const { keys, changed = 0 } of left) for (const key of keys) dates.set(key, Math.max(dates.get(key) ?? 0, changed));
+  return dates;
+}
+
+/**
+ * When a file was changed, and the newest one that was here before it and had one of its keys, if it is older.
+ * @param {{changed?: number}} file
+ * @param {string[]} keys
+ * @param {Map<string, number>} dates
+ */
+function ageOf({ changed }, keys, dates) {
+  const newest = Math.max(...keys.map((key) => dates.get(key) ?? 0));
+  return { changed, newer: newest > (changed ?? newest) ? newest : undefined };
 }
 
 /**

@@ -3,7 +3,7 @@ import { at } from "./draw/elements.mjs";
 import { Pane } from "./draw/pane.mjs";
 import { unfold, unfoldOnPaper } from "./draw/printing.mjs";
 import { isSpreadsheet, kindOf, startOf } from "./judge/files.mjs";
-import { collected, counted, EXAMPLE, gathered, isUnanswered, PASTED, read, withFiles, without } from "./opened.mjs";
+import { answered, counted, EXAMPLE, gathered, isUnanswered, PASTED, read, withFile, withFiles, without } from "./opened.mjs";
 import { bytesOf, unpacked } from "./packed.mjs";
 import { pageOf, save, withObjects } from "./saving.mjs";
 import { isForeign } from "./say/refused.mjs";
@@ -15,6 +15,7 @@ import { STOPPED, Work } from "./work.mjs";
 
 /** How long a judging goes on before it can be stopped, in ms. */
 const PATIENCE = 400, PASTE = "Paste a log here", NO_DROP = "No file was dropped, so nothing has changed. Save the text as a file, and open that.";
+const NOT_SAVED = "Nothing was saved: there isn't enough memory for it. Close other tabs and programs.";
 const SAVED_COPY = "This is what a browser has saved of the page: its answers, without the logs. To go on, open these again.";
 
 const field = /** @type {HTMLTextAreaElement} */ (at("text")), files = /** @type {HTMLInputElement} */ (at("files"));
@@ -46,6 +47,7 @@ async function ask(entry) {
   const { given, name, text, changed } = entry;
   const done = await work.ask(given ? { files: filesOf(entry).map((file) => ({ name: file.name, text: file.text })) } : { name, text, changed });
   if (done.collection && given) withFiles(done.collection, given);
+  if (done.told) withFile(done.told.object, entry);
   Object.assign(entry, done);
   if (!now.pending && !now.entries.some(isUnanswered)) quiet();
   // the more there are, the less often their list is drawn
@@ -89,7 +91,7 @@ function draw() {
   drawList();
   saves.hidden = !(entry?.told && !isForeign(entry.told)) && !entry?.collection;
   beside.hidden = !!pending || entry?.given !== undefined || current < 0;
-  show(entry, opener, (name) => filesOf(entry).some((file) => file.name === name));
+  show(entry, openerOf(entry), (name) => name === undefined || filesOf(entry).some((file) => file.name === name));
   if (!now.isPressed || pending || entries.some(isUnanswered)) return;
   now.isPressed = false;
   focusOnHeading();
@@ -142,29 +144,33 @@ close.addEventListener("click", () => { keep(); take([]); });
 const filesOf = (entry) => [...entry?.given?.tables ?? [], ...entry?.given?.logs ?? []];
 
 /**
- * What is told of a log, with its text.
+ * What is told of a log, with its text, also if something else is opened meanwhile, which stops what is judged.
  * @param {Entry} log
+ * @returns {Promise<import("./judge/told.mjs").Told | undefined>}
  */
-const whole = async ({ name, text, changed }) => (await work.ask({ name, text, changed, isKept: true })).told;
+const whole = async (log) => {
+  const { told, error } = await work.ask({ name: log.name, text: log.text, changed: log.changed, isKept: true });
+  return error === STOPPED ? whole(log) : told;
+};
 
 /**
- * What is told of a log of the collection that is shown, by its number: it is judged when it is asked for.
- * @param {number} number
+ * What is told of a log of a collection, by its number: it is judged when it is asked for.
+ * @param {Entry} [entry]
+ * @returns {import("./draw/collection.mjs").Opener}
  */
-function opener(number) {
-  const { given, collection } = now.entries[now.current], name = collection?.logs[number].name;
-  const log = given?.logs.find((it) => it.name === name && kindOf(it) === "log");
+const openerOf = (entry) => (number) => {
+  const name = entry?.collection?.logs[number].name, log = entry?.given?.logs.find((it) => it.name === name && kindOf(it) === "log");
   return log ? () => whole(log) : null;
-}
+};
 
 shown.addEventListener("click", ({ target }) => {
   const { leave, kept, both, out, as } = /** @type {HTMLElement} */ (target).closest("button")?.dataset ?? {};
-  const { given, collection } = now.entries[now.current] ?? {}, all = filesOf(now.entries[now.current]), outs = out?.split(",").map(Number);
-  if (!given || !leave && !both && !out && !as) return;
+  const entry = now.entries[now.current], { given, collection } = entry ?? {}, all = filesOf(entry), outs = out?.split(",").map(Number);
+  if (!both && (!given || !leave && !out && !as)) return;
   keep();
   now.isPressed = true;
-  take(both ? [collected({ ...given, both: [...given.both, ...both.split("\n")] })] : as && kept ? [counted(given, kept.split("\n"), as.split("\n"))]
-    : without(given, all.filter((it, index) => outs ? outs.includes(index) : leave?.split("\n").includes(it.name)), kept, collection));
+  if (both) take(now.entries.map((it) => it === entry ? answered(it, both.split("\n")) : it), now.current);
+  else if (given) take(as && kept ? [counted(given, kept.split("\n"), as.split("\n"))] : without(given, all.filter((it, index) => outs ? outs.includes(index) : leave?.split("\n").includes(it.name)), kept, collection));
 });
 
 /**
@@ -194,8 +200,10 @@ const edit = (entry = now.entries[now.current]) => pane.put(entry && !isSpreadsh
 saves.addEventListener("click", async () => {
   const log = now.entries[now.current], fold = unfold(), text = shown.innerText, { title } = document;
   fold();
-  const object = log.collection ? await withObjects(log.collection, opener) : (await whole(log))?.object;
-  if (object) save(pageOf(new TextDecoder().decode(await unpacked(bytesOf(RECORD))), object, title, text), `${log.name}.html`);
+  const told = log.collection ? undefined : await whole(log), object = told && withFile(told.object, log);
+  const made = log.collection ? await withObjects(log.collection, openerOf(log)) : object;
+  if (made) save(pageOf(new TextDecoder().decode(await unpacked(bytesOf(RECORD))), made, title, text), `${log.name}.html`);
+  else status.textContent = NOT_SAVED;
 });
 
 // How logs come

@@ -12,7 +12,8 @@ const MOST_TEXT = 4_000_000, MOST_REPEATED = 8;
 const LISTS = new Set(["certain_in", "possible_in"]);
 
 /**
- * A collection as it is saved: with the objects of as many of its logs as there is room for, those first that have to be counted again.
+ * A collection as it is saved: with the objects of as many of its logs as there is room for, those first that have to be counted again;
+ * none if one of them can't be had.
  * @param {import("./judge/objects.mjs").CollectionObject} object
  * @param {import("./draw/collection.mjs").Opener} opener
  */
@@ -20,7 +21,8 @@ export async function withObjects(object, opener) {
   const logs = [...object.logs], isDone = (/** @type {number} */ at) => logs[at].field === "possible" && !logs[at].open?.length;
   let room = MOST_TEXT;
   for (const at of [...logs.keys()].sort((one, other) => Number(isDone(one)) - Number(isDone(other)))) {
-    const told = room > 0 ? await opener(at)?.() : undefined;
+    const opens = room > 0 ? opener(at) : null, told = await opens?.();
+    if (opens && !told) return undefined;
     room -= told?.object.text.length ?? 0;
     if (told && room >= 0) logs[at] = { ...logs[at], object: told.object };
   }

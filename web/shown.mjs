@@ -28,7 +28,7 @@ const heading = () => /** @type {HTMLElement | null} */ (document.querySelector(
  * Shows what is told of a log or a collection; until it is judged, nothing.
  * @param {Entry | undefined} entry
  * @param {import("./draw/collection.mjs").Opener} opener
- * @param {(name: string) => boolean} canLeave
+ * @param {(name?: string) => boolean} canLeave
  */
 export function show(entry, opener, canLeave) {
   shown.setAttribute("aria-busy", String(entry !== undefined && isUnanswered(entry)));
@@ -55,7 +55,7 @@ export function focusOnHeading() {
 /**
  * @param {Entry} entry
  * @param {import("./draw/collection.mjs").Opener} opener
- * @param {(name: string) => boolean} canLeave
+ * @param {(name?: string) => boolean} canLeave
  * @returns {Node[]}
  */
 function nodesOf(entry, opener, canLeave) {
@@ -70,7 +70,7 @@ function nodesOf(entry, opener, canLeave) {
   const noted = more ? [el("p", { class: "note" }, printable(more))] : [];
   if (error) return [...noted, banner({ look: "refused", sign: "?", headline: unanswered(name, error), lights: [] }, printable(name)), ...said];
   if (waits) return [...noted, el("h1", {}, waits), ...said];
-  return collection ? [...noted, ...collectionView(collection, opener, canLeave)] : told ? [...noted, ...view(told)] : [];
+  return collection ? [...noted, ...collectionView(collection, opener, canLeave)] : told ? [...noted, ...view(told, undefined, true, true)] : [];
 }
 
 /**
@@ -99,7 +99,7 @@ export function overview(entries, current) {
   if (isOne) return;
   list.querySelectorAll("button").forEach((button, index) => label(button, entries[index], index === current));
   const tolds = entries.flatMap(({ name, told }) => told ? { name, told } : []), foreign = tolds.filter(({ told }) => isForeign(told)).length;
-  const whole = tolds.filter(({ told }) => told.object.kind === KIND.COMPLETE).length, logs = many - foreign;
+  const whole = entries.filter(({ told, said }) => told?.object.kind === KIND.COMPLETE && !said?.doubts.length).length, logs = many - foreign;
   const how = entries.some(isUnanswered) || !logs ? "" : ` Complete: ${whole.toLocaleString("en")} of ${logs.toLocaleString("en")}.`;
   const others = foreign ? ` ${count(foreign, "file isn't a log", "files aren't logs")}.` : "";
   const words = `${count(logs, "log")}${logs > 1 ? ", each with its own answer" : ""}.${how}${others}`;
@@ -109,7 +109,7 @@ export function overview(entries, current) {
   const sums = tolds.map(({ name, told: { object: { answer, sha256 } } }) =>
     el("p", {}, `${printable(name)}: ${answer} · SHA-256 `, el("code", {}, sha256)));
   const version = tolds.length ? `, by vicinity ${tolds[0].told.object.version}` : "";
-  shown.replaceChildren(el("footer", { class: "record" }, ...sums, ...signed(words, `${count(many, "file")}${version}`)));
+  shown.replaceChildren(el("footer", { class: "record" }, ...sums, ...signed([words, ...entries.flatMap(({ said }) => said?.answered ?? [])], `${count(many, "file")}${version}`)));
   headed(words);
 }
 

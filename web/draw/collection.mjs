@@ -6,10 +6,10 @@ import { inOrder, MOST_LISTED, nameOf } from "../say/shelves.mjs";
 import { conditionsOf, sayAll, summaryOf } from "../say/summary.mjs";
 import { granted, TO_KNOW } from "../say/sure.mjs";
 import { count, dated, endings, listing, printable } from "../say/words.mjs";
-import { bullets, button, drawnLater, el, folded, lowered, oneStop, rest } from "./elements.mjs";
+import { bullets, drawnLater, el, folded, lowered, oneStop, rest } from "./elements.mjs";
 import { shelved } from "./items.mjs";
 import { Pane } from "./pane.mjs";
-import { banner, signed, view } from "./view.mjs";
+import { banner, doubted, notes, signed, view } from "./view.mjs";
 
 /** @typedef {import("../judge/told.mjs").Told} Told */
 /** @typedef {import("../judge/objects.mjs").CollectionObject} CollectionObject */
@@ -32,7 +32,7 @@ const NOT_COUNTED = "Nothing is known of these, as their places have no log.";
 const WAITS = "Open or drop the logs, in any order. A catalogue says what should be here: a list of what was read is none, it would always agree.";
 const AGAIN_BROKEN = " If a log contradicts itself again, send it and this page to whoever maintains the reader.";
 const STRAYS = "Of these it isn't known where they were heard: their logs are of no place. Where to find them is known once the places are.";
-const NO_RESULT = "This sheet is no result: a question above is open.", ASK_MORE = "Count again, with readers that ask all once more at the end.";
+const ASK_MORE = "Count again, with readers that ask all once more at the end.";
 const CARRIED = "Nothing was carried from one field to another while the logs were written.";
 const ONCE_AGAIN = `Of these a strong reply may have hidden others: ${TO_KNOW}.`;
 const PROVED = "What is said of each item and log is what the library writes of these files, which is proved; how the page draws it is tested.";
@@ -40,14 +40,14 @@ const PROVED = "What is said of each item and log is what the library writes of 
 /**
  * @param {CollectionObject} object
  * @param {Opener} [opener]
- * @param {(name: string) => boolean} [canLeave] whether a log can be left out
+ * @param {(name?: string) => boolean} [canLeave] whether a log can be left out
  * @returns {Node[]}
  */
 export function collectionView(object, opener = () => null, canLeave) {
   const { shelves, doubts, answered, of, elsewhere, others, strays, open, hiding, deaf, isComplete } = summaryOf(object), said = sayAll(object);
   const { counts, logs } = object, home = (/** @type {Item} */ { place }) => printable(place ?? ""), file = printable(object.file);
-  const notes = [...object.left ?? [], ...answered].map((it) => el("p", { class: "note" }, it));
-  if (!logs.length) return [...notes, banner(said, file), ...doubted(object, canLeave), el("p", {}, WAITS)];
+  const above = notes([...object.left ?? [], ...answered]), asked = doubted("Logs and shelves", doubts, canLeave);
+  if (!logs.length) return [...above, banner(said, file), ...asked, el("p", {}, WAITS)];
   const mayBe = { "may be in": (/** @type {Item} */ item) => shelves.mayBe(item) }, at = (/** @type {Item} */ item) => shelves.at(item);
   // of a shelf of which nothing is known to be in place no items are named
   const known = new Set(["", ...of("in place").map(home)]), some = others.filter((item) => known.has(home(item)));
@@ -64,7 +64,7 @@ export function collectionView(object, opener = () => null, canLeave) {
     (counts.unexpected ? NOT_EXPECTED : "") + (counts.returned ? IS_BACK : "");
   const drawn = (/** @type {string} */ title, /** @type {string} */ words, /** @type {number[]} */ list, isFirst = false) =>
     logsOf(title, words, list, isFirst, object, opener);
-  return [...notes, banner(said, `${file} · ${count(logs.length, "log")}${spanOf(logs)}`), ...doubted(object, canLeave),
+  return [...above, banner(said, `${file} · ${count(logs.length, "log")}${spanOf(logs)}`), ...asked,
     ...(isComplete || object.wanted) && !doubts.length ? [el("h2", {}, "At the shelves"), el("ul", { class: "steps" }, steps)] : [],
     ...isKnown ? conditions : [], ...drawn("Count again", again + (isBroken ? AGAIN_BROKEN : ""), open, true),
     ...part("At the shelves", todo, doubts.every((it) => !it.numbers), look, shelved(todo, shelves, at, {}, (item) => shelves.toDo(item))),
@@ -84,20 +84,6 @@ export function collectionView(object, opener = () => null, canLeave) {
 function spanOf(logs) {
   const all = logs.flatMap(({ changed }) => changed ?? []), ends = [...new Set([dated(Math.min(...all)), dated(Math.max(...all))])];
   return all.length ? ` · file${logs.length > 1 ? "s" : ""} of ${ends.join(" to ")}` : "";
-}
-
-/**
- * What isn't sure of the logs, with buttons that answer, and where none of them would leave out what can't be, with these, too.
- * @param {CollectionObject} object
- * @param {((name: string) => boolean)} [canLeave] whether a log can be left out
- */
-function doubted(object, canLeave) {
-  const { doubts } = summaryOf(object), items = doubts.slice(0, MOST_LISTED).map(({ words, cure, buttons = [], logs = [] }) => {
-    const pressed = buttons.filter(([, data]) => canLeave && ("data-both" in data || logs.every(canLeave))).map((it) => button(...it));
-    return el("li", {}, el("b", {}, words), ` ${cure}`, ...pressed.length ? [el("p", { class: "take" }, pressed)] : []);
-  });
-  return items.length ? [el("section", { class: "doubts" }, el("h2", {}, "Logs and shelves"), el("ul", { class: "steps" }, items),
-    ...rest(doubts.length - MOST_LISTED))] : [];
 }
 
 /**
@@ -201,8 +187,7 @@ function recordOfAll(object) {
   const { counts, items, logs, files, version, answer, file, left = [] } = object;
   const states = Object.entries(counts).flatMap(([state, number]) => number ? `${number.toLocaleString("en")} ${state}` : []);
   const said = [count(items.length, "item"), ...states, count(logs.length, "log")].join("\u00A0· ");
-  const sums = files.map((it) => el("p", {}, `${printable(it.file)}${it.sha256 ? " · SHA-256 " : ""}`, el("code", {}, it.sha256)));
+  const sums = files.map((it) => el("p", {}, `${printable(it.file)}${it.changed ? ` of ${dated(it.changed)}` : ""}${it.sha256 ? " · SHA-256 " : ""}`, el("code", {}, it.sha256)));
   return el("footer", { class: "record" }, el("p", {}, said), el("p", {}, `vicinity ${version}: `, el("code", {}, printable(answer))), ...sums,
-    ...summaryOf(object).isUnsettled ? [el("p", { class: "signed" }, NO_RESULT)]
-      : signed([sayAll(object).headline, ...left, ...summaryOf(object).answered].join(" "), printable(file)));
+    ...signed([sayAll(object).headline, ...left, ...summaryOf(object).answered], printable(file), summaryOf(object).isUnsettled));
 }

@@ -4,8 +4,9 @@ import { hex } from "../judge/frames.mjs";
 import { KIND } from "../judge/objects.mjs";
 import { say } from "../say/say.mjs";
 import { alsoHolds, granted, HOLDS, ifDeaf, isApart, missed, onceMore, silentIn } from "../say/sure.mjs";
+import { MOST_LISTED } from "../say/shelves.mjs";
 import { count, dated, printable } from "../say/words.mjs";
-import { bullets, drawnLater, el, folded, linked, oneStop, rest, toLine } from "./elements.mjs";
+import { bullets, button, drawnLater, el, folded, linked, oneStop, rest, toLine } from "./elements.mjs";
 import { maintainer } from "./maintainer.mjs";
 import { rounds } from "./rounds.mjs";
 
@@ -13,21 +14,40 @@ import { rounds } from "./rounds.mjs";
 /** @typedef {Map<string, string>} Names what a catalogue says of UIDs */
 
 /** How many UIDs are shown without being asked for beside other things; of how many lines a conflict has a list, and how many are named there. */
-const FEW = 24, FEW_LINES = 8, MOST_LINES_NAMED = 1000;
+const FEW = 24, FEW_LINES = 8, MOST_LINES_NAMED = 1000, NO_RESULT = "This sheet is no result: a question above is open.";
 
 /**
  * The whole of what is drawn of a log.
  * @param {Told} told
  * @param {Names} [names]
  * @param {boolean} [isAlone] whether it is no log of a collection
+ * @param {boolean} [canPress] whether a question can be answered
  * @returns {Node[]}
  */
-export function view(told, names = new Map(), isAlone = true) {
+export function view(told, names = new Map(), isAlone = true, canPress = false) {
   const said = say(told, isAlone), file = printable(told.object.file), { answer, kind } = told.object;
   // without a list, its first tag isn't more than the others
   const what = kind === KIND.UNLISTED && !told.counts.listed ? [file] : [file, el("span", { class: "paper" }, " · ", el("code", {}, answer))];
-  return [banner(said, what), ...shelf(said), ...conditions(told), ...findings(told, names), ...tags(told, names),
-    ...maintainer(told, said, () => [...rounds(told, names), ...conflict(told)]), ...takenForGranted(told), record(told, isAlone, said.headline)];
+  return [...notes(said.answered), banner(said, what), ...doubted("The file", said.doubts, () => canPress), ...shelf(said), ...conditions(told), ...findings(told, names), ...tags(told, names),
+    ...maintainer(told, said, () => [...rounds(told, names), ...conflict(told)]), ...takenForGranted(told), record(told, isAlone, said)];
+}
+
+/** @param {string[]} all what was done, or answered */
+export const notes = (all) => all.map((it) => el("p", { class: "note" }, it));
+
+/**
+ * What isn't sure, with buttons that answer, and where none of them would leave out what can't be, with these, too.
+ * @param {string} title
+ * @param {import("../say/copies.mjs").Doubt[]} doubts
+ * @param {(name?: string) => boolean} [canLeave] whether a log can be left out
+ */
+export function doubted(title, doubts, canLeave = () => false) {
+  const items = doubts.slice(0, MOST_LISTED).map(({ words, cure, buttons = [], logs = [] }) => {
+    const pressed = buttons.filter(([, data]) => "data-both" in data ? canLeave() : logs.every(canLeave)).map((it) => button(...it));
+    return el("li", {}, el("b", {}, words), ` ${cure}`, ...pressed.length ? [el("p", { class: "take" }, pressed)] : []);
+  });
+  return items.length ? [el("section", { class: "doubts" }, el("h2", {}, title), el("ul", { class: "steps" }, items),
+    ...rest(doubts.length - MOST_LISTED))] : [];
 }
 
 /**
@@ -129,27 +149,29 @@ function takenForGranted(told) {
 /**
  * @param {Told} told
  * @param {boolean} isAlone
- * @param {string} headline
+ * @param {import("../say/say.mjs").Said} said
  */
-function record({ object: { file, kind, version, sha256, answer, changed }, counts, faulty }, isAlone, headline) {
+function record({ object: { file, kind, version, sha256, answer, changed }, counts, faulty }, isAlone, { headline, answered, doubts }) {
   const isRefused = kind === KIND.REFUSED;
   const parts = /** @type {[number, string, string?][]} */ ([[counts.rounds, "round"], [counts.slots, "slot"], [counts.heard, "reply", "replies"],
     [counts.quiets, "Stay Quiet"], [counts.cycles, "field cycle"], [counts.listed, "UID listed", "UIDs listed"]]);
   // of a text that isn't a log nothing but its lines is known
-  const said = [...isSpreadsheet(faulty) ? [] : [count(counts.lines, "line")],
+  const words = [...isSpreadsheet(faulty) ? [] : [count(counts.lines, "line")],
     ...isRefused ? [] : parts.filter(([number]) => number).map((part) => count(...part))].join("\u00A0· ");
   const sum = sha256 ? [`${changed ? ` · of ${dated(changed)}` : ""} · SHA-256 of the ${isRefused ? "file" : "log"} `, el("code", {}, sha256)] : [];
-  return el("footer", { class: "record" }, ...said ? [el("p", {}, said)] : [], el("p", {}, `vicinity ${version}: `, el("code", {}, answer), ...sum),
-    ...isRefused || !isAlone ? [] : signed(headline, printable(file)));
+  return el("footer", { class: "record" }, ...words ? [el("p", {}, words)] : [], el("p", {}, `vicinity ${version}: `, el("code", {}, answer), ...sum),
+    ...isRefused || !isAlone ? [] : signed([headline, ...answered], printable(file), doubts.length > 0));
 }
 
 /**
- * What was judged, and who counted, where and when: on paper, whose last sheet has it.
- * @param {string} headline
+ * What was judged, and who counted, where and when: on paper, whose last sheet has it. Where something is asked it is no result.
+ * @param {string[]} said
  * @param {string} what
+ * @param {boolean} [isAsked]
  */
-export function signed(headline, what) {
-  return [el("p", { class: "signed" }, `${headline} (${what})`),
+export function signed(said, what, isAsked) {
+  if (isAsked) return [el("p", { class: "signed" }, NO_RESULT)];
+  return [el("p", { class: "signed" }, `${said.join(" ")} (${what})`),
     el("p", { class: "signed" }, "Counted on ____________________ at ____________________ by ____________________"),
     el("p", { class: "signed printed" })];
 }

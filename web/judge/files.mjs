@@ -50,6 +50,33 @@ export const hasUids = (file) => headsOf(file).includes("uid");
 export const isPlaces = (file) => ["place", "log"].every((head) => headsOf(file).includes(head)) && !hasUids(file);
 
 /**
+ * The cells of a line of a table.
+ * @param {string} line
+ * @param {string} separator
+ */
+const cellsOf = (line, separator) => Array.from(line.matchAll(new RegExp(`("(?:[^"]|"")*"|[^${separator}]*)(?:${separator}|$)`, "g")),
+  ([, cell]) => (cell[0] === '"' ? cell.slice(1, -1).replace(/""/g, '"') : cell).replace(/^[ \t]+|[ \t]+$/g, ""));
+
+/**
+ * Which logs a table of places names, that the library has accepted.
+ * @param {Given} table
+ */
+export function logsNamed({ text }) {
+  const [first, ...lines] = new TextDecoder().decode(utf8Of(text)).split(/\r?\n/), wanted = ["place", "log"];
+  const heads = (/** @type {string} */ it) => cellsOf(first, it).map((head) => head.toLowerCase());
+  const separator = [",", ";", "\t"].find((it) => wanted.every((head) => heads(it).includes(head))) ?? ",";
+  const [placeAt, logAt] = wanted.map((head) => heads(separator).indexOf(head)), rows = lines.map((line) => cellsOf(line, separator));
+  return rows.flatMap((cells) => cells[logAt] ? { place: cells[placeAt], log: cells[logAt] } : []);
+}
+
+/**
+ * By which of those names a log is found: its own, that without folders, or without ending too.
+ * @param {string} name
+ * @param {Set<string>} known
+ */
+export const nameIn = (name, known) => [name, name.split(/[/\\]/).pop() ?? "", stemOf(name)].find((it) => known.has(it));
+
+/**
  * Of what isn't a log or surveys, a table has a name or a column that says so.
  * @param {Given} file
  * @returns {Kind}

@@ -104,7 +104,8 @@ function written(library, texts, files) {
  */
 function refusedIn(texts, line, name, fault) {
   const text = texts.find((it) => it.name === name)?.text ?? new Uint8Array();
-  return { name, line, fault, files: texts.flatMap(({ name: it }) => it === name || fault === "SameName" && stemOf(it) === stemOf(name) ? it : []),
+  const isSame = (/** @type {Given} */ it) => [it.name, ...surveyedIn(it)].some((one) => stemOf(one) === stemOf(name));
+  return { name, line, fault, files: texts.flatMap((it) => it.name === name || fault === "SameName" && isSame(it) ? it.name : []),
     quoted: DECODED.decode(untilLine(text, line).subarray(lineAt(text, line))).trimEnd() };
 }
 

@@ -35,6 +35,8 @@ export const KIND = Object.freeze({ COMPLETE: "complete", ABSENT: "absent", UNLI
  * @property {Reading} [deaf] and if moreover the reader went deaf behind the last slot in which a tag answered
  * @property {number} [margin] of a complete list
  * @property {MaskFields} [weakest]
+ * @property {number} [newer] when a file was that it replaced, if that is newer
+ * @property {string[]} [both] what was answered of it, by the keys of the questions
  */
 /** @typedef {{margin: number, weakest: MaskFields}} Margin in how many slots a tag that isn't listed would have had to be missed, and
  *    the weakest mask */
@@ -77,7 +79,8 @@ export const KIND = Object.freeze({ COMPLETE: "complete", ABSENT: "absent", UNLI
  * @property {Unexpected[]} unexpected
  * @property {string[]} without_log
  * @property {OneLog[]} logs
- * @property {{file: string, sha256: string}[]} files what was given beside the logs
- * @property {string[]} [both] what was answered of its logs, by the keys of the questions
+ * @property {{file: string, sha256: string, changed?: number, newer?: number}[]} files what was given beside the logs
+ * @property {{place: string, log: string}[]} [unread] what a table of places names and isn't here, of places of which other logs are
+ * @property {string[]} [both] what was answered of its files, by the keys of the questions
  * @property {string[]} [left] what is said of files that were left out, or count as others, on which the answer rests
  */

@@ -2,11 +2,12 @@
 import { copiesAmong, stemOf, uncopied } from "../judge/files.mjs";
 import { grouped } from "../judge/groups.mjs";
 import { firstOf, MOST_LISTED, nameOf } from "./shelves.mjs";
-import { count, dated, printable } from "./words.mjs";
+import { count, dated, listing, printable } from "./words.mjs";
 
 /** @typedef {import("../judge/objects.mjs").CollectionObject} CollectionObject */
 /** @typedef {import("./shelves.mjs").Shelves} Shelves */
 /** @typedef {[string, Record<string, string>]} Button what it says and carries */
+/** @typedef {{name: string, of?: string, changed?: number, newer?: number, sha256?: string, surveys?: string}} Aged a file */
 /**
  * In a few words, in a sentence, and what to do; whether a headline says it that isn't complete, and
  * whether one of the logs may not count; buttons, of which each leaves out one of some logs, or says that it counts, or of which place; and
@@ -24,6 +25,17 @@ const ONE_FILE = "One is a copy: leave out that of the shelf that wasn't counted
 const OLDER = "may be an older log of the same shelf: leave out the older.";
 const OVERLAP = "The fields of two readers may overlap. If not, a log is an older one, or items were carried in between: count these fields again.";
 const WHICH = "Of one field only one log counts: press that.";
+
+/**
+ * Doubts of which some are answered: those that aren't, and what was answered of the others.
+ * @param {Doubt[]} all
+ * @param {string[]} [both]
+ */
+export function askedOf(all, both = []) {
+  const answers = all.map(({ buttons = [] }) => buttons.find(([, { "data-both": keys }]) => keys?.split("\n").every((key) => both.includes(key))));
+  return { doubts: all.filter((_, at) => !answers[at]),
+    answered: all.flatMap(({ words }, at) => (answers[at] ?? []).slice(0, 1).map((said) => `${words} It was answered here: '${said}'.`)) };
+}
 
 /**
  * Logs with tags that are the same, byte for byte: of so many shelves but one wasn't counted.
@@ -119,24 +131,24 @@ export function interchanged({ logs, items }) {
 
 /**
  * By what a file is known of which something is said: one with other bytes, or beside a newer one, is asked about anew.
- * @param {CollectionObject["logs"][number]} log
+ * @param {Aged} file
  */
 const olderOne = ({ name, changed, newer = 0, sha256, surveys }) => `${name} of ${changed}, not of ${newer}: ${sha256 || surveys}`;
 
 /**
- * Logs that took the place of newer files of the same names: those of which it was said that they count, and the others.
- * @param {CollectionObject} object
- * @param {Shelves} shelves
+ * Files that took the place of newer ones, each by the shelf of its log: those of which it was said that they count, and the others.
+ * @param {Aged[]} files
+ * @param {string[]} [both]
  * @returns {Doubt[]}
  */
-export function older({ logs, both = [] }, shelves) {
-  const groups = grouped([...logs.keys()].filter((at) => logs[at].newer), (at) => both.includes(olderOne(logs[at])));
-  return [...groups.values()].map((its) => {
-    const all = its.map((at) => logs[at]), [{ name, changed, newer }] = all, isOne = its.length === 1, first = nameOf(name);
+export function older(files, both = []) {
+  return [...grouped(files.filter(({ newer }) => newer), (it) => both.includes(olderOne(it))).values()].map((all) => {
+    const [{ name, changed, newer }] = all, isOne = all.length === 1, first = nameOf(name), of = all.flatMap((it) => it.of ?? []);
     const isNear = dated(changed) === dated(newer), when = (/** @type {number | undefined} */ time) => dated(time, isNear);
-    const files = firstOf(all.map((it) => nameOf(it.name)), "and", MOST_LISTED), of = firstOf(its.map((at) => shelves.name(at)));
-    return { mayNotCount: true, logs: all.map((it) => it.name), cure: isOne ? COUNTS : ALL_COUNT,
-      short: isOne ? `the log of ${of} is older than the one it replaced` : `the logs of ${of} are older than those they replaced`,
+    const files = firstOf(all.map((it) => nameOf(it.name)), "and", MOST_LISTED), logs = `the log${of.length > 1 ? "s" : ""} of ${firstOf(of)}`;
+    const those = listing([...all.flatMap((it) => it.of ? [] : nameOf(it.name)), ...of.length ? [logs] : []]);
+    return { mayNotCount: true, cure: isOne ? COUNTS : ALL_COUNT,
+      short: isOne ? `${those} is older than the one it replaced` : `${those} are older than those they replaced`,
       words: isOne ? `${first} of ${when(changed)} is older than the file that it replaced, of ${when(newer)}.`
         : `${files} are older than the files that they replaced: ${first} is of ${when(changed)}, the other one of ${when(newer)}.`,
       buttons: [[`The older one${isOne ? " counts" : "s count"}`, { "data-both": all.map(olderOne).join("\n") }]] };

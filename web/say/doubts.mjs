@@ -1,7 +1,7 @@
 /** What is to be known of the logs of a collection before its items are: what wasn't counted, and what isn't sure. */
 import { stemOf } from "../judge/files.mjs";
 import { KIND } from "../judge/objects.mjs";
-import { copies, interchanged, leaving, ofAPlace, ofOtherDays, older, same, shared } from "./copies.mjs";
+import { askedOf, copies, interchanged, leaving, ofAPlace, ofOtherDays, older, same, shared } from "./copies.mjs";
 import { SENTENCES } from "./sentences.mjs";
 import { firstOf, MOST_LISTED, nameOf } from "./shelves.mjs";
 import { count, printable } from "./words.mjs";
@@ -25,17 +25,28 @@ const DENIED = "Its reply may have been lost, or the list is that of another cou
  * @param {Shelves} shelves
  */
 export function doubtsOf(object, shelves) {
-  const namesIn = (/** @type {Doubt[]} */ doubts) => doubts.flatMap(({ logs = [] }) => logs), answered = /** @type {string[]} */ ([]);
-  const left = (/** @type {Doubt[]} */ doubts) => doubts.filter(({ words, buttons = [] }) => {
-    const said = buttons.find(([, { "data-both": keys }]) => keys?.split("\n").every((key) => object.both?.includes(key)));
-    if (said) answered.push(`${words} It was answered here: '${said[0]}'.`);
-    return !said;
-  });
-  const asked = left([...copies(object, shelves), ...ofAPlace(object)]), those = namesIn(asked), alike = same(object, those);
-  const doubts = [...asked, ...alike, ...left(interchanged(object)), ...ofPlaces(object, those, asked.flatMap(({ places = [] }) => places)),
-    ...cutOff(object), ...left([...older(object, shelves), ...ofOtherDays(object, shelves)]), ...ruledOut(object, shelves),
-    ...withoutAnswer(object, shelves), ...left(shared(object, shelves, [...those, ...namesIn(alike)])), ...notAsked(shelves)];
-  return { doubts, answered };
+  const namesIn = (/** @type {Doubt[]} */ doubts) => doubts.flatMap(({ logs = [] }) => logs), { both, files, logs } = object;
+  const first = [...copies(object, shelves), ...ofAPlace(object)], { doubts } = askedOf(first, both), those = namesIn(doubts);
+  const alike = same(object, those), aged = logs.map((log, at) => ({ ...log, of: shelves.name(at) }));
+  return askedOf([...first, ...alike, ...interchanged(object), ...ofPlaces(object, those, doubts.flatMap(({ places = [] }) => places)),
+    ...notHere(object), ...cutOff(object), ...older([...files.map((it) => ({ ...it, name: it.file })), ...aged], both),
+    ...ofOtherDays(object, shelves), ...ruledOut(object, shelves), ...withoutAnswer(object, shelves),
+    ...shared(object, shelves, [...those, ...namesIn(alike)]), ...notAsked(shelves)], both);
+}
+
+/**
+ * Logs that a table of places names, and that aren't here: their places have others.
+ * @param {CollectionObject} object
+ * @returns {Doubt[]}
+ */
+function notHere({ unread = [], files, file }) {
+  const table = files.find((it) => it.file !== file), name = printable(table?.file ?? ""), isOne = unread.length === 1;
+  const those = (/** @type {string} */ of) => unread.map(({ place, log }) => printable(`${log} ${of} ${place}`));
+  const [they, them, is] = isOne ? ["It isn't", "its row", "isn't"] : ["They aren't", "their rows", "aren't"];
+  return !unread.length ? [] : [{ isFirst: true, mayNotCount: true, short: `no log ${firstOf(those("of"))}, as ${name} names`,
+    words: `${name} names ${firstOf(those("for"), "and", MOST_LISTED)}, which ${is} here: what may be there isn't counted.`,
+    cure: `Open ${isOne ? "it" : "them"} too, or delete ${them} in ${name}.`,
+    buttons: [[`${they} of this count`, { "data-both": [table?.sha256, ...unread.map(({ log }) => log)].join() }]] }];
 }
 
 /**

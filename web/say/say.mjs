@@ -1,6 +1,7 @@
 /** What a person is told of a log, in sentences: the answer, what to do at the shelf, and what the reader's maintainer needs. */
 import { KIND } from "../judge/objects.mjs";
 import { contradiction, HIDDEN } from "./contradiction.mjs";
+import { askedOf, older } from "./copies.mjs";
 import { refused } from "./refused.mjs";
 import { SENTENCES } from "./sentences.mjs";
 import { howSure, isShaken } from "./sure.mjs";
@@ -24,6 +25,8 @@ import { whyOpen } from "./why.mjs";
  * @property {string[]} causes why it came so, for whoever maintains the reader
  * @property {string} test what tells the causes apart
  * @property {string[]} ask lines that send it
+ * @property {import("./copies.mjs").Doubt[]} doubts what is asked about its file
+ * @property {string[]} answered and what was answered
  */
 
 const AGAIN = "Count again, to the end.";
@@ -54,11 +57,24 @@ const NO_LINES = "The log lists no UIDs: the reader's software has to write a U 
 const ANSWERS = SENTENCES.answers, NO_CONFLICT = `${HIDDEN} Read so, the log doesn't contradict itself.`;
 
 /**
+ * What is green isn't while anything is asked about it.
  * @param {Told} told
  * @param {boolean} isAlone whether it is no log of a collection, which is compared with a catalogue
  * @returns {Said}
  */
 export function say(told, isAlone = true) {
+  const { object } = told, asked = askedOf(isAlone ? older([{ ...object, name: object.file }], object.both) : [], object.both);
+  const said = { ...answerOf(told, isAlone), ...asked }, { look, lights, headline } = said, isSure = look !== "yes" || !asked.doubts.length;
+  return isSure ? said : { ...said, look: "read", sign: "i", headline: `${headline} But ${asked.doubts[0].short}.`, shelf: [],
+    lights: lights.map((it) => it.look === "yes" ? { ...it, look: "plain" } : it) };
+}
+
+/**
+ * @param {Told} told
+ * @param {boolean} isAlone
+ * @returns {Omit<Said, "doubts" | "answered">}
+ */
+function answerOf(told, isAlone) {
   const none = { lights: [], why: "", lead: "", test: "", ask: [] };
   if (told.object.kind === KIND.REFUSED) return { ...none, look: "refused", sign: "?", ...refused(told) };
   if (!told.conflict) return { ...none, ...possible(told, isAlone) };
