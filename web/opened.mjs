@@ -250,11 +250,11 @@ function asOthers(logs, names) {
 export function withFiles(object, { tables, logs, both, left, before }) {
   Object.assign(object, { both, left: [...wasEach(left), ...asOthers(logs, logs.map(({ name }) => name))] });
   const files = new Map(logs.flatMap((it) => (kindOf(it) === "surveys" ? surveyedIn(it) : [it.name]).map((name) => [name, it])));
-  const dates = datesOf([...left, ...before]), out = new Set(left.flatMap(({ how, keys }) => how === BY_BUTTON ? keys : []));
-  for (const [at, table] of tables.entries()) Object.assign(object.files[at], ageOf(table, [...keysOf(table), kindKey(table)], dates));
+  const ageOf = agesBeside([...left, ...before]), out = new Set(left.flatMap(({ how, keys }) => how === BY_BUTTON ? keys : []));
+  for (const [at, table] of tables.entries()) Object.assign(object.files[at], ageOf(table, [...keysOf(table), kindKey(table)]));
   for (const log of object.logs) {
     const file = files.get(log.name) ?? log;
-    Object.assign(log, { was: file.was, ...ageOf(file, [log, file].flatMap(stemsOf), dates) });
+    Object.assign(log, { was: file.was, ...ageOf(file, [log, file].flatMap(stemsOf)) });
   }
   const named = tables.filter(isPlaces).flatMap(logsNamed), known = new Set(named.map(({ log }) => log));
   const here = new Set(object.logs.map(({ name }) => nameIn(name, known))), places = new Set(object.logs.map(({ place }) => place));
@@ -267,27 +267,18 @@ export function withFiles(object, { tables, logs, both, left, before }) {
  * @param {Entry} entry
  */
 export const withFile = (object, entry) =>
-  Object.assign(object, { both: entry.both, ...ageOf(entry, keysOf(entry), datesOf(entry.left ?? [])) });
+  Object.assign(object, { both: entry.both, ...agesBeside(entry.left ?? [])(entry, keysOf(entry)) });
 
 /**
- * When the newest of files was changed that had a key.
+ * By what was here: when a file was changed, and the newest one that had one of its keys, if it is older.
  * @param {Left[]} left
+ * @returns {(file: {changed?: number}, keys: string[]) => {changed?: number, newer?: number}}
  */
-function datesOf(left) {
+function agesBeside(left) {
   const dates = /** @type {Map<string, number>} */ (new Map());
   for (const { keys, changed = 0 } of left) for (const key of keys) dates.set(key, Math.max(dates.get(key) ?? 0, changed));
-  return dates;
-}
-
-/**
- * When a file was changed, and the newest one that was here before it and had one of its keys, if it is older.
- * @param {{changed?: number}} file
- * @param {string[]} keys
- * @param {Map<string, number>} dates
- */
-function ageOf({ changed }, keys, dates) {
-  const newest = Math.max(...keys.map((key) => dates.get(key) ?? 0));
-  return { changed, newer: newest > (changed ?? newest) ? newest : undefined };
+  return ({ changed }, keys, newest = Math.max(...keys.map((key) => dates.get(key) ?? 0))) =>
+    ({ changed, newer: newest > (changed ?? newest) ? newest : undefined });
 }
 
 /**

@@ -148,10 +148,8 @@ const filesOf = (entry) => [...entry?.given?.tables ?? [], ...entry?.given?.logs
  * @param {Entry} log
  * @returns {Promise<import("./judge/told.mjs").Told | undefined>}
  */
-const whole = async (log) => {
-  const { told, error } = await work.ask({ name: log.name, text: log.text, changed: log.changed, isKept: true });
-  return error === STOPPED ? whole(log) : told;
-};
+const whole = (log) => work.ask({ name: log.name, text: log.text, changed: log.changed, isKept: true })
+  .then(({ told, error }) => error === STOPPED ? whole(log) : told);
 
 /**
  * What is told of a log of a collection, by its number: it is judged when it is asked for.
@@ -200,9 +198,8 @@ const edit = (entry = now.entries[now.current]) => pane.put(entry && !isSpreadsh
 saves.addEventListener("click", async () => {
   const log = now.entries[now.current], fold = unfold(), text = shown.innerText, { title } = document;
   fold();
-  const told = log.collection ? undefined : await whole(log), object = told && withFile(told.object, log);
-  const made = log.collection ? await withObjects(log.collection, openerOf(log)) : object;
-  if (made) save(pageOf(new TextDecoder().decode(await unpacked(bytesOf(RECORD))), made, title, text), `${log.name}.html`);
+  const object = log.collection ? await withObjects(log.collection, openerOf(log)) : await whole(log).then((told) => told && withFile(told.object, log));
+  if (object) save(pageOf(new TextDecoder().decode(await unpacked(bytesOf(RECORD))), object, title, text), `${log.name}.html`);
   else status.textContent = NOT_SAVED;
 });
 

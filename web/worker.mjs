@@ -1,6 +1,7 @@
 /** Judges logs and collections beside the page, which stays alive meanwhile and can end it. */
-import { judge, judgeAll, Refused } from "./judge/judge.mjs";
-import { Library, OutOfMemory } from "./judge/library.mjs";
+import { kindOf } from "./judge/files.mjs";
+import { judge, judgeAll } from "./judge/judge.mjs";
+import { Library, OutOfMemory, WRONG_TEXTS } from "./judge/library.mjs";
 import { tell } from "./judge/told.mjs";
 import { unpacked } from "./packed.mjs";
 import { noAnswer } from "./say/refused.mjs";
@@ -20,10 +21,12 @@ const load = () => unpacked(module).then(Library.of).catch(() => null);
 
 /**
  * Why there is no answer, in words, and what to do. What has trapped, which each browser calls otherwise, is loaded again.
- * @param {unknown} error
+ * @param {any} error
+ * @param {import("./judge/files.mjs").Given[]} [files] of a collection
  */
-function why(error) {
-  if (error instanceof Refused) return noAnswer(error.what);
+function why(error, files = []) {
+  const tables = error.message === WRONG_TEXTS && files.filter((file) => kindOf(file) === "table").map(({ name }) => name);
+  if (error.cause || tables) return noAnswer(error.cause ?? { files: tables });
   if (error instanceof OutOfMemory) return { error: SENTENCES.failures.memory };
   loading = load();
   return { error: SENTENCES.failures.trap };
@@ -49,6 +52,6 @@ onmessage = async ({ data: { id, ...data } }) => {
     if (text) postMessage({ id, told: tell({ ...await judge(library, text, name, isKept), changed }, text) });
     if (files) postMessage({ id, collection: await judgeAll(library, files) });
   } catch (error) {
-    postMessage({ id, ...why(error) });
+    postMessage({ id, ...why(error, data.files) });
   }
 };

@@ -61,13 +61,11 @@ const cellsOf = (line, separator) => Array.from(line.matchAll(new RegExp(`("(?:[
  * Which logs a table of places names, that the library has accepted.
  * @param {Given} table
  */
-export function logsNamed({ text }) {
-  const [first, ...lines] = new TextDecoder().decode(utf8Of(text)).split(/\r?\n/), wanted = ["place", "log"];
-  const heads = (/** @type {string} */ it) => cellsOf(first, it).map((head) => head.toLowerCase());
-  const separator = [",", ";", "\t"].find((it) => wanted.every((head) => heads(it).includes(head))) ?? ",";
-  const [placeAt, logAt] = wanted.map((head) => heads(separator).indexOf(head)), rows = lines.map((line) => cellsOf(line, separator));
-  return rows.flatMap((cells) => cells[logAt] ? { place: cells[placeAt], log: cells[logAt] } : []);
-}
+export const logsNamed = ({ text }) => [",", ";", "\t"].map((separator) => {
+  const [heads, ...rows] = new TextDecoder().decode(utf8Of(text)).split(/\r?\n/).map((line) => cellsOf(line, separator));
+  const [place, log] = ["place", "log"].map((name) => heads.findIndex((head) => head.toLowerCase() === name));
+  return rows.flatMap((cells) => cells[place] && cells[log] ? { place: cells[place], log: cells[log] } : []);
+}).find((rows) => rows.length) ?? [];
 
 /**
  * By which of those names a log is found: its own, that without folders, or without ending too.

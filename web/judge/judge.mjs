@@ -14,14 +14,8 @@ const MOST_QUOTED = 160, DECODED = new TextDecoder("utf-8", { ignoreBOM: true })
 /** A line of a log's own list. */
 const LISTED = /^U (\w{16})/gm;
 
-/** A line for which a collection has no answer, or tables that are none of its files. */
-export class Refused extends Error {
-  /** @param {{name?: string, line?: number, fault?: string, quoted?: string, files: string[]}} what with the files that can be left out */
-  constructor(what) {
-    super("refused");
-    this.what = what;
-  }
-}
+/** @typedef {{name?: string, line?: number, fault?: string, quoted?: string, files: string[]}} Refused a line for which a collection has no
+ *   answer, or tables that are none of its files; with the files that can be left out */
 
 /**
  * @param {Library} library
@@ -38,15 +32,15 @@ export async function judge(library, text, name, isKept = false) {
 }
 
 /**
- * A collection, or why it is none.
+ * A collection; or the cause of an error says why it is none.
  * @param {Library} library
  * @param {Given[]} files
  * @returns {Promise<CollectionObject>}
  */
 export async function judgeAll(library, files) {
   const texts = files.map((file) => ({ name: file.name, text: kindOf(file) === "table" ? utf8Of(file.text) : file.text }));
-  const said = DECODED.decode(written(library, texts, files)), refused = said.match(REFUSED);
-  if (refused) throw new Refused(refusedIn(texts, Number(refused[1]), refused[2], refused[3]));
+  const said = DECODED.decode(library.run("json-collection", texts).written), refused = said.match(REFUSED);
+  if (refused) throw new Error(said, { cause: refusedIn(texts, Number(refused[1]), refused[2], refused[3]) });
   const object = JSON.parse(said), tables = files.filter((file) => kindOf(file) === "table");
   const sums = new Map(await Promise.all(files.map(async ({ name, text }) => /** @type {const} */ ([name, await sumOf(text)]))));
   shareLists([...object.items, ...object.unexpected]);
@@ -83,24 +77,11 @@ function shareLists(items) {
 }
 
 /**
- * @param {Library} library
- * @param {Given[]} texts
- * @param {Given[]} files
- */
-function written(library, texts, files) {
-  try {
-    return library.run("json-collection", texts).written;
-  } catch (error) {
-    if (!(error instanceof RangeError)) throw error;
-    throw new Refused({ files: files.filter((file) => kindOf(file) === "table").map(({ name }) => name) });
-  }
-}
-
-/**
  * @param {Given[]} texts
  * @param {number} line
  * @param {string} name
  * @param {string} fault
+ * @returns {Refused}
  */
 function refusedIn(texts, line, name, fault) {
   const text = texts.find((it) => it.name === name)?.text ?? new Uint8Array();

@@ -16,12 +16,10 @@ const ENCODER = new TextEncoder();
 /** How many bytes a command may write, for each byte of its texts too, and at most, also of a collection, so that most texts are judged once. */
 const FIRST_WRITTEN = 4096, WRITTEN_FOR_EACH = 16, MOST_FIRST_WRITTEN = 1 << 20, MOST_OF_ALL = 1 << 26;
 
-const WRONG_TEXTS = "these texts aren't what the command takes";
+export const WRONG_TEXTS = "these texts aren't what the command takes";
 
 /** Memory was refused, so there is no answer. */
-export class OutOfMemory extends Error {
-  constructor() { super("out of memory"); }
-}
+export class OutOfMemory extends Error { constructor() { super("out of memory"); } }
 
 export class Library {
   /** @type {Record<string, Call>} */

@@ -144,11 +144,8 @@ export class Log {
     for (let at = 0; at < this.rowCount; at++) {
       if (this.isQuiet(at)) ready.delete(uidIn(this.frame(this.lineOf(at))));
       else if (!this.isRound(at)) for (const uid of heard) ready.add(uid);
-      for (const line of this.outcomes(at).filter((it) => this.isReply(it))) {
-        const uid = uidIn(this.frame(line));
-        heard.add(uid);
-        ready.add(uid);
-      }
+      const uids = this.outcomes(at).filter((line) => this.isReply(line)).map((line) => uidIn(this.frame(line)));
+      for (const uid of uids) ready.add(uid) && heard.add(uid);
     }
     return ready;
   }
@@ -217,9 +214,7 @@ export class Log {
    */
   outcomes(index) {
     const lines = [], end = index + 1 < this.#rows.length ? this.#rows[index + 1] : this.lineCount + 1;
-    for (let line = this.#rows[index] + 1; line < end; line++) {
-      if (this.reading(line)) lines.push(line);
-    }
+    for (let line = this.#rows[index] + 1; line < end; line++) if (this.reading(line)) lines.push(line);
     return lines;
   }
 

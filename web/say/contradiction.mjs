@@ -28,9 +28,8 @@ export function contradiction(conflict, { counts, cycles }) {
   if (silencer && one) return woke(other ?? one, conflict, cycles);
   if (number === 1 && it) return alone(it, sent);
   if (unread) return { ...unmet(conflict, unread, sent), ask: [sixteen(unread.mask, link)] };
-  if (number === 2 && other) {
-    return { ...hidden(one, other, sent), ask: [sixteen(one.mask.len < other.mask.len ? one.mask : other.mask, link)] };
-  }
+  const wider = one && other && (one.mask.len < other.mask.len ? one.mask : other.mask);
+  if (number === 2 && wider) return { ...hidden(one, other, sent), ask: [sixteen(wider, link)] };
   if (number === 2 && one && silent) return { ...lost(one, silent, sent), ask: [sixteen({ len: UID_LEN, value: one.uid ?? 0n }, link)] };
   return { sentence: `${count(number, "line")} from ${first} to ${last} can't all be true.`, causes: [sent, WRONG_PLACE] };
 }

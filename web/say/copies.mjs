@@ -156,22 +156,20 @@ export function older(files, both = []) {
 }
 
 /**
- * Logs whose files are more than half a day older than the newest one.
- * @param {CollectionObject} object
- * @param {Shelves} shelves
+ * Logs whose files are more than half a day older than the newest one, but those of which it is asked already whether they count.
+ * @param {Aged[]} logs
+ * @param {string[]} [both]
  * @returns {Doubt[]}
  */
-export function ofOtherDays({ logs, both = [] }, shelves) {
-  const newest = Math.max(0, ...logs.map(({ changed = 0 }) => changed));
-  const isAsked = (/** @type {number} */ at) => logs[at].newer && !both.includes(olderOne(logs[at]));
-  const late = [...logs.keys()].filter((at) => (logs[at].changed ?? newest) < newest - HALF_A_DAY && !isAsked(at));
-  const those = late.map((at) => logs[at]), names = late.map((at) => shelves.name(at));
-  const key = [newest, ...those.map(olderOne)].join(), isOne = late.length === 1;
+export function ofOtherDays(logs, both = []) {
+  const newest = Math.max(0, ...logs.map(({ changed = 0 }) => changed)), isAsked = (/** @type {Aged} */ it) => it.newer && !both.includes(olderOne(it));
+  const late = logs.filter((it) => (it.changed ?? newest) < newest - HALF_A_DAY && !isAsked(it)), names = late.map(({ name, of = name }) => of);
+  const key = [newest, ...late.map(olderOne)].join(), isOne = late.length === 1;
   const [log, is, they] = isOne ? ["log", "is", "It is"] : ["logs", "are", "They are"];
-  const other = `${isOne ? "its file" : `the file of ${names[0]}`} is of ${dated(those[0]?.changed)}, the newest of ${dated(newest)}`;
+  const other = `${isOne ? "its file" : `the file of ${names[0]}`} is of ${dated(late[0]?.changed)}, the newest of ${dated(newest)}`;
   return !late.length ? [] : [{ short: `the ${log} of ${firstOf(names)} ${is} more than 12 hours older`, mayNotCount: true,
     words: `The ${log} of ${firstOf(names, "and", MOST_LISTED)} ${is} older than the others: ${other}.`,
-    cure: MOVED, ...leaving(those, [[`${they} of this count`, { "data-both": key }]]) }];
+    cure: MOVED, ...leaving(late, [[`${they} of this count`, { "data-both": key }]]) }];
 }
 
 /**
@@ -189,8 +187,7 @@ export function shared({ logs, items, unexpected }, shelves, asked) {
   // where nothing else was heard, and nothing that belongs there, perhaps that field wasn't counted
   const isAlien = (/** @type {number} */ at) => share(at) === 1 && (logs[at].certain ?? 0) > 1 && logs[at].place !== null && !atHome.has(at);
   const share = (/** @type {number} */ at) => (logs[at].shared ?? 0) / (logs[at].certain || 1);
-  const isAsked = (/** @type {number} */ at) => asked.includes(logs[at].name);
-  const ordered = [...logs.keys()].filter((at) => logs[at].shared)
+  const isAsked = (/** @type {number} */ at) => asked.includes(logs[at].name), ordered = [...logs.keys()].filter((at) => logs[at].shared)
     .sort((one, other) => Number(isAlien(other)) - Number(isAlien(one)) || share(other) - share(one) || other - one);
   return ordered.flatMap((at) => {
     const { shared: number = 0, certain = 0 } = logs[at], all = number === certain, is = number === 1 ? "is" : "are";

@@ -30,7 +30,7 @@ export function doubtsOf(object, shelves) {
   const alike = same(object, those), aged = logs.map((log, at) => ({ ...log, of: shelves.name(at) }));
   return askedOf([...first, ...alike, ...interchanged(object), ...ofPlaces(object, those, doubts.flatMap(({ places = [] }) => places)),
     ...notHere(object), ...cutOff(object), ...older([...files.map((it) => ({ ...it, name: it.file })), ...aged], both),
-    ...ofOtherDays(object, shelves), ...ruledOut(object, shelves), ...withoutAnswer(object, shelves),
+    ...ofOtherDays(aged, both), ...ruledOut(object, shelves), ...withoutAnswer(object, shelves),
     ...shared(object, shelves, [...those, ...namesIn(alike)]), ...notAsked(shelves)], both);
 }
 

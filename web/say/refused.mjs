@@ -66,7 +66,7 @@ export function refused(told) {
 
 /**
  * Why there is no answer to a collection, what to do, and which files can be left out.
- * @param {import("../judge/judge.mjs").Refused["what"]} what
+ * @param {import("../judge/judge.mjs").Refused} what
  */
 export function noAnswer({ name = "", line = 0, fault = "", quoted = "", files }) {
   const tables = files.length ? `: the tables are ${files.join(", ")}` : "";
