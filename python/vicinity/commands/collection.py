@@ -12,7 +12,7 @@ from .._objects import NOT_COMPLETE, Object, too_small
 from .._process import (Arguments, NoAnswer, complain, names_of, read, read_log, shown,
                         tell_terminal, write)
 from .._run import Written, run
-from .._sentences import advice
+from .._sentences import SENTENCES, advice
 from ..pages.document import document, page_object
 from ..logs.findings import JudgedLog
 from ..logs.headline import MAY_BE_HERE, READ_AGAIN, STILL_COMPLETE
@@ -28,9 +28,6 @@ WRITES = {"lines": "reconcile", "csv": "collection", "json": OBJECT, "page": OBJ
 WANTED = ("these aren't the files of a collection: one catalogue, at most one table of places, and "
           "logs or surveys, with names in UTF-8 and without control characters")
 NO_LOGS = "no log is given, so nothing is counted: did a pattern, or a list of names, find none?"
-#: What a terminal is told of a complete collection.
-HEARD = ("This is said of tags that had power, heard the reader, "
-         "and were heard when they answered: one that never answers is in no log.")
 #: States in which nothing is to be done.
 DONE = "in place", "there", "away", "no tag"
 #: How much text of logs stands in a page, and how many logs a sentence names.
@@ -156,7 +153,7 @@ def _notes(written: Written, answer: Object, is_shown: bool) -> Iterator[str]:
     if not is_shown or not answer:
         return
     if written.status == 0:
-        yield HEARD
+        yield SENTENCES["answers"]["holds"]
         yield from _sure(answer)
     names = [log["name"] for log in answer["logs"]]
     yield from summary([
