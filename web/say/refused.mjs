@@ -14,7 +14,7 @@ const ONE_OF_EACH = "Open one catalogue (a table with a column uid), at most one
 /** A cell with a UID, low byte first; files of which lines may stand in a table. */
 const TURNED = /(?:^|[,;\t"])(?:[0-9A-F]{2}[ :.-]?){7}E0(?:$|[,;\t"])/i, IN_TABLES = ["surveys", "turned", "list", "binary", "table", "text"];
 /** How a text begins that somebody meant as a log, but for what an editor adds to it, or a coding makes of it. */
-const [BEGINS, LOG_IS] = SENTENCES.aLog, OF_A_LOG = new RegExp(BEGINS, "i"), CODING = /[\0\uFEFF\uFFFD]/g;
+const [BEGINS, LOG_IS] = SENTENCES.aLog, isOfALog = (/** @type {string} */ text) => new RegExp(BEGINS, "i").test(text.replace(/[\0\uFEFF\uFFFD]/g, ""));
 
 /**
  * What a file is that is no log, with its name.
@@ -87,7 +87,7 @@ const wrongFile = (text) => ({ wrong: `this is no log and no table${foundIn(text
 function wrongTable(text, line, fault) {
   const [name, [, what]] = foundIn(text), first = fault === "Utf8" ? ofFirst(text, line) : undefined;
   if (line === 1 && !IN_TABLES.includes(name)) return { wrong: `this is no table${what}`, fix: "Open the table itself, saved as CSV." };
-  if (text.includes("\0")) return advice("utf16", SENTENCES.tables);
+  if (text.includes("\0") && !isOfALog(text)) return advice("utf16", SENTENCES.tables);
   if (first) return { wrong: first[0], fix: first[1] };
   if (fault === "Utf8" && text.includes("\uFFFD")) return { wrong: "the line isn't UTF-8", fix: "Save the sheet as 'CSV UTF-8'." };
   return advice(fault === "Uid" && TURNED.test(text) ? "turned" : fault, SENTENCES.tables);
@@ -97,4 +97,4 @@ function wrongTable(text, line, fault) {
  * Whether nobody meant a text as a log.
  * @param {Told} told
  */
-export const isForeign = ({ object: { line }, faulty }) => line === 1 && !OF_A_LOG.test(faulty.replace(CODING, ""));
+export const isForeign = ({ object: { line }, faulty }) => line === 1 && !isOfALog(faulty);

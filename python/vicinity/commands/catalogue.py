@@ -8,13 +8,15 @@ from contextlib import suppress
 from typing import Iterable, Iterator, Sequence
 
 from .._process import shown
-from .._sentences import FLAGS, SENTENCES
+from .._sentences import SENTENCES
 from ..logs.words import count
 
-#: The columns of a catalogue that has places.
-UID, PLACE = "uid", "place"
+#: The columns of a catalogue that has places, and names that look like that of the second.
+UID, PLACE, NEARLY = "uid", "place", ("place", "places")
 #: What separates cells, in the order in which it is tried.
 SEPARATORS = ",;\t"
+#: What is no letter, digit or sign of a name.
+OTHER = re.compile(r"[\W_]+")
 DOUBTS = SENTENCES["catalogues"]
 
 
@@ -38,7 +40,7 @@ def doubts(tables: Iterable[tuple[str, bytes]]) -> Iterator[str]:
             lines = count(table.count(b"\n") + 1, "line")
             yield f"{shown(name)} has {lines}, {DOUBTS['cut']}"
         for number, column in enumerate(columns, 1) if PLACE not in map(_name, columns) else ():
-            if re.search(DOUBTS["like"], unicodedata.normalize("NFKC", column), FLAGS):
+            if OTHER.sub("", unicodedata.normalize("NFKC", column)).lower() in NEARLY:
                 yield f"{shown(name)}: {DOUBTS['noPlaces']} " + DOUBTS["meant"].format(
                     f"{number}, {json.dumps(column)},")
 
