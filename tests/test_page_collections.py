@@ -350,8 +350,8 @@ def test_items_of_any_place_and_a_log_of_no_place(page):
              "trolley.log": field(UID_B, asks=2)}
     drop(page, files)
     (doubt,) = page.texts(".doubts li")
-    assert "trolley.log" in doubt and "If items of the place any are counted there, write a " in doubt
-    assert "table of places" in doubt and look(page) == "no"
+    assert "trolley.log" in doubt and look(page) == "no"
+    assert "If items of the place any are counted there, write a table of places" in doubt
     drop(page, {"places.csv": b"place,log\nA,A.log\ntrolley,trolley.log\n"})
     assert look(page) == "yes"
     drop(page, {"books.csv": BOTH})

@@ -167,8 +167,8 @@ class Page(Command):
             said = " ".join(within("show", self.write("a", text))[0].decode().split())
             is_sure = b"\nU " in text and wanted.endswith("still complete / still complete")
             self.assertEqual("Nothing to do. " in said, is_sure, names)
-            self.assertIs(vicinity.check(text).is_complete, any(
-                words in said for words in ("Nothing to do", "Spread out items", "If items should")))
+            steps = "Nothing to do", "Spread out items", "If items should be here"
+            self.assertIs(vicinity.check(text).is_complete, any(it in said for it in steps))
 
     def test_lights(self):
         """None of a text that is refused."""

@@ -13,10 +13,6 @@ SENTENCES: Mapping[str, Any] = json.loads(
     _TEXT.partition(BEGINS)[2].rstrip().rstrip(";"))
 
 
-#: As the page's patterns are read.
-FLAGS = re.IGNORECASE | re.ASCII
-
-
 class Advice(NamedTuple):
     """What is wrong with a line, and what to do."""
 
@@ -36,9 +32,9 @@ def advice(fault: str, of: str = "faults") -> Advice:
 def foreign(line: str) -> Sequence[str]:
     """What a file is that begins with a line nobody meant as one of a log, and what to do;
     empty of others."""
-    if re.search(SENTENCES["aLog"][0], re.sub("[\0\ufeff\ufffd]", "", line), FLAGS):
+    if re.search(SENTENCES["aLog"][0], re.sub("[\0\ufeff\ufffd]", "", line), re.I):
         return ()
-    return next(said for it, *said in SENTENCES["files"].values() if re.search(it, line, FLAGS))
+    return next(said for it, *said in SENTENCES["files"].values() if re.search(it, line, re.I))
 
 
 def numbered(name: str, number: int, of: str = "answers") -> str:

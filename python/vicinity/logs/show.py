@@ -24,8 +24,7 @@ GREEN = "1;32"
 NAMED = "7"
 #: How many lines a picture has at most, what is found, what to send where rounds take the rest, and
 #: what signs mean; and how many tags are silenced in these lines.
-MOST, MOST_FOUND, MOST_SENT, MOST_LEGEND = 24, 6, 6, 2
-MOST_SILENCED = 3
+MOST, MOST_FOUND, MOST_SENT, MOST_LEGEND, MOST_SILENCED = 24, 6, 6, 2, 3
 NO_BREAK = "\u00a0"
 #: The slots of a round, and how many columns each takes.
 SLOTS, CELL = 16, 3
@@ -74,9 +73,8 @@ def show(log: JudgedLog, look: Look = Look()) -> Iterator[str]:
     left = MOST - sum(len(part) + 1 for part in (head, findings, last) if part)
     rounds = list(_picture(log, look, left - min(len(sent), MOST_SENT) - 1))
     few = _few(sent, max(1, left - len(rounds) - 1))
-    parts = [head, findings, few, rounds, last]
-    lines = "\n\n".join("\n".join(part) for part in parts if part).split("\n")
-    yield from (line if look.utf8 else line.translate(ASCII) for line in lines)
+    text = "\n\n".join("\n".join(it) for it in (head, findings, few, rounds, last) if it)
+    yield from (text if look.utf8 else text.translate(ASCII)).split("\n")
 
 
 def _step(log: JudgedLog) -> str:
@@ -225,21 +223,15 @@ def _sent(log: JudgedLog, look: Look) -> Iterator[str]:
     elif left["count"] or log.answer.status > 1:
         return
     elif not log.settles("captured"):
-        yield from [*look.wrapped(REQUESTS["hidden"]), *_silencing(log),
-                    rows.ask(Mask(0, 0))]
+        quiets = [rows.silence(int(uid, 16)) for uid in certain["uids"]]
+        if quiets[MOST_SILENCED:]:
+            quiets = [f"(a Stay Quiet to each of {certain['count']:,} tags)"]
+        yield from [*look.wrapped(REQUESTS["hidden"]), *quiets, rows.ask(Mask(0, 0))]
     elif log.is_shaken("deaf") and certain["count"]:
         why = "" if rows.has_cycles else f" {REQUESTS['noCycles']}"
         yield from look.wrapped(REQUESTS["heard"] + why)
         heard = Mask(UID_BITS, int(certain["uids"][0][2:], 16))
         yield from ["F", rows.ask(heard)] if rows.has_cycles else ()
-
-
-def _silencing(log: JudgedLog) -> list[str]:
-    """The Stay Quiets for the tags that are certain, or that each of these is to get one."""
-    certain = log.object["certain"]
-    if certain["count"] > MOST_SILENCED:
-        return [f"(a Stay Quiet to each of {certain['count']:,} tags)"]
-    return [log.rows.silence(int(uid, 16)) for uid in certain["uids"]]
 
 
 def _asking(lines: Iterable[str], look: Look) -> Iterator[str]:
