@@ -1,5 +1,5 @@
 /** What is opened: files as logs, each with its text, or together a collection, which has none of its own. */
-import { hasUids, isBroken, isPlaces, isSpreadsheet, isStrange, kindOf, logsNamed, nameIn, startOf, stemOf, surveyedIn } from "./judge/files.mjs";
+import { hasUids, isBroken, isPlaces, isSpreadsheet, isStrange, kindOf, logsNamed, nameIn, startOf, stemOf, surveyedIn, uncopied } from "./judge/files.mjs";
 import { grouped } from "./judge/groups.mjs";
 import { SENTENCES } from "./say/sentences.mjs";
 import { firstOf, MOST_LISTED } from "./say/shelves.mjs";
@@ -16,7 +16,7 @@ import { STOPPED } from "./work.mjs";
  * A log, or a collection, with what was done to it last; or one that waits for its catalogue. Of a file it has when that was changed,
  * and its own name, if it took another; of one by itself, what isn't here any more, and what was answered.
  * @typedef {Given & import("./work.mjs").Done & {given?: Collection, waits?: string, note?: string,
- *   said?: import("./say/say.mjs").Said, changed?: number, was?: string, left?: Left[], both?: string[]}} Entry
+ *   said?: import("./say/say.mjs").Said, changed?: number, was?: string, left?: Left[], both?: string[], made?: string}} Entry
  */
 
 /** Larger files are no logs, and no text for each browser. */
@@ -45,15 +45,16 @@ export const isLacking = ({ error, text }) => error && (error !== STOPPED || !te
  * A file that can't be read, as a folder, or not to its end, has no answer.
  * @param {File} file
  * @param {AbortSignal} signal ends the reading
+ * @param {string} [made] how it came, if it is no file
  * @returns {Promise<Entry>}
  */
-export async function read(file, signal) {
+export async function read(file, signal, made) {
   const name = file.name.replace(CONTROL, "?"), text = new Uint8Array();
   if (UNFINISHED.test(name)) return { name, text, error: NOT_WHOLE };
   if (file.size > MOST_BYTES) return { name, text, error: TOO_LARGE };
   try {
     const stopped = new Promise((_, no) => signal.addEventListener("abort", no)), bytes = await Promise.race([file.arrayBuffer(), stopped]);
-    return { name, text: new Uint8Array(bytes), changed: file.lastModified };
+    return { name, text: new Uint8Array(bytes), changed: file.lastModified, made };
   } catch { return { name, text, error: signal.aborted ? STOPPED : NO_FILE }; }
 }
 
@@ -62,7 +63,7 @@ const isATable = (entry) => kindOf(entry) === "table";
 /** @param {Entry} entry */
 const isCatalogue = (entry) => isATable(entry) && !isPlaces(entry);
 /** @param {Entry} entry */
-const isPasted = ({ name }) => [PASTED, EXAMPLE].includes(name);
+const isPasted = ({ made }) => made !== undefined;
 /** @param {{name: string}[]} list */
 const namesOf = (list) => listing(list.map(({ name }) => printable(name)));
 
@@ -92,12 +93,12 @@ const keysOf = (entry) => isATable(entry) ? [`${stemOf(entry.name)}/`] : [...ste
 const kindKey = (table) => `/${isPlaces(table)}`;
 
 /**
- * Files that leave.
+ * Files that leave. One that was called like a copy of another, and of which nothing is said, may have been a later count of that.
  * @param {Entry[]} list
  * @param {(file: Entry) => string} [how] nothing if it isn't said of each
  */
 const leftAs = (list, how = () => "") => list.map((it) => /** @type {Left} */ (
-  { name: it.was ?? it.name, how: how(it), keys: keysOf(it), changed: it.changed }));
+  { name: it.was ?? it.name, how: how(it), keys: how(it) ? keysOf(it) : keysOf(it).flatMap((key) => [key, uncopied(key)]), changed: it.changed }));
 
 /**
  * What was opened, as it is judged. Logs join others. Tables, or logs beside a collection that is here, belong to what is here, and what
@@ -273,13 +274,13 @@ export const withFile = (object, entry) =>
 /**
  * By what was here: when a file was changed, and the newest one that had one of its keys, if it is older.
  * @param {Left[]} left
- * @returns {(file: {changed?: number}, keys: string[]) => {changed?: number, newer?: number}}
+ * @returns {(file: {changed?: number}, keys: string[]) => Pick<import("./say/copies.mjs").Aged, "changed" | "newer" | "than">}
  */
 function agesBeside(left) {
-  const dates = /** @type {Map<string, number>} */ (new Map());
-  for (const { keys, changed = 0 } of left) for (const key of keys) dates.set(key, Math.max(dates.get(key) ?? 0, changed));
-  return ({ changed }, keys, newest = Math.max(...keys.map((key) => dates.get(key) ?? 0))) =>
-    ({ changed, newer: newest > (changed ?? newest) ? newest : undefined });
+  const sorted = [...left].sort((one, other) => (one.changed ?? 0) - (other.changed ?? 0));
+  const last = new Map(sorted.flatMap((it) => it.keys.map((key) => /** @type {const} */ ([key, it]))));
+  return ({ changed }, keys) => keys.flatMap((key) => last.get(key) ?? []).reduce((age, { name, changed: newer = 0 }) =>
+    newer > (age.newer ?? changed ?? newer) ? { changed, newer, than: name } : age, /** @type {{changed?: number, newer?: number}} */ ({ changed }));
 }
 
 /**

@@ -174,9 +174,10 @@ shown.addEventListener("click", ({ target }) => {
 /**
  * Files are taken in the order in which they were opened, however long each is read. Until then nothing is shown.
  * @param {Iterable<File>} chosen
+ * @param {string} [made] how they came, if they are none
  */
-function open(chosen) {
-  const all = [...chosen], reading = Promise.all(all.map((file) => read(file, now.stopping.signal)));
+function open(chosen, made) {
+  const all = [...chosen], reading = Promise.all(all.map((file) => read(file, now.stopping.signal, made)));
   if (!all.length) return;
   /** @type {Entry} */
   const mine = now.pending = { name: all.length === 1 ? all[0].name : count(all.length, "file"), text: new Uint8Array() };
@@ -186,7 +187,7 @@ function open(chosen) {
     const taken = await reading;
     if (now.pending === mine) now.pending = undefined;
     if (!now.pending) quiet();
-    const made = gathered(taken, now.entries.filter((it) => it.name !== EXAMPLE));
+    const made = gathered(taken, now.entries.filter((it) => it.made !== EXAMPLE));
     if (now.entries.length) keep();
     take(made, made.length < 2 ? 0 : taken.length > 1 ? -1 : made.length - 1);
   }).catch(({ message }) => take([{ ...mine, error: message }]));
@@ -210,7 +211,7 @@ files.addEventListener("change", () => {
   // so that the same file, changed meanwhile, can be chosen again
   files.value = "";
 });
-at("example").addEventListener("click", () => open([new File([SAMPLE], EXAMPLE)]));
+at("example").addEventListener("click", () => open([new File([SAMPLE], EXAMPLE)], EXAMPLE));
 /**
  * Whether a text gets into the field, which takes one where no log is shown.
  * @param {Event} event
@@ -218,7 +219,7 @@ at("example").addEventListener("click", () => open([new File([SAMPLE], EXAMPLE)]
 const isInField = ({ target }) => target === field && !field.readOnly;
 /** @param {DragEvent} event */
 const isTyped = (event) => isInField(event) && !event.dataTransfer?.types.includes("Files");
-field.addEventListener("input", () => open([new File([field.value], PASTED)]));
+field.addEventListener("input", () => open([new File([field.value], PASTED)], PASTED));
 document.addEventListener("dragover", (event) => { if (!isTyped(event)) event.preventDefault(); });
 document.addEventListener("drop", (event) => {
   if (isTyped(event)) return;
@@ -233,7 +234,8 @@ document.addEventListener("paste", (event) => {
   const text = event.clipboardData?.getData("text/plain");
   if (!pasted.length && (!text || isInField(event))) return;
   event.preventDefault();
-  open(pasted.length ? pasted : [new File([text ?? ""], PASTED)]);
+  if (pasted.length) open(pasted);
+  else open([new File([text ?? ""], PASTED)], PASTED);
 });
 unfoldOnPaper();
 if (document.body.classList.contains("empty")) draw();

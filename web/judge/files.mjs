@@ -10,8 +10,10 @@ const SPREADSHEET = /^(?:PK\x03\x04|\uFFFD\uFFFD\x11[\u0871\uFFFD])/;
 const NO_TEXT_AT_ALL = /^%PDF|^(?=[^]*\0)[^]*\uFFFD/;
 /** How the name of a table ends. */
 export const TABLE = /\.(csv|tsv|xlsx?|ods|numbers)$/i;
-/** How a second copy of a file is called by browsers and systems. */
-const COPIED = /^(?:Copy of )?(.+?)(?: ?\(\d+\)| ?- ?Copy(?: \(\d+\))?| copy(?: \d+)?)?$/i;
+/** How a second copy of a file is called by browsers and systems, of which each has a language. */
+const A_COPY = "(?:copy|kopie|copie|copia|c\u00F3pia|kopia|kopi)";
+const COPIED = RegExp(`^(?:${A_COPY} (?:of|von|van|de|di|av) )?(.+?)(?: ?[([](?:\\d+|(?:(?:another|\\d+\\w\\w) )?${A_COPY}(?: \\d+)?)[)\\]]| ?- ?${A_COPY}(?: \\(\\d+\\))?` +
+  `| ${A_COPY}(?: \\d+)?)?$`, "i");
 
 /**
  * Whether a text was that of a spreadsheet.

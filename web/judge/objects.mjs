@@ -35,7 +35,8 @@ export const KIND = Object.freeze({ COMPLETE: "complete", ABSENT: "absent", UNLI
  * @property {Reading} [deaf] and if moreover the reader went deaf behind the last slot in which a tag answered
  * @property {number} [margin] of a complete list
  * @property {MaskFields} [weakest]
- * @property {number} [newer] when a file was that it replaced, if that is newer
+ * @property {number} [newer] when a file was that was here before it, if that is newer
+ * @property {string} [than] the name of that file
  * @property {string[]} [both] what was answered of it, by the keys of the questions
  */
 /** @typedef {{margin: number, weakest: MaskFields}} Margin in how many slots a tag that isn't listed would have had to be missed, and
@@ -57,10 +58,10 @@ export const KIND = Object.freeze({ COMPLETE: "complete", ABSENT: "absent", UNLI
 /** @typedef {Omit<Item, "state" | "place" | "cells"> & {line: number}} Unexpected */
 /**
  * Of a log `denied` are the UIDs on its own list that it rules out, and `was` is the name of its file, if it took the place of another;
- * `changed` is when the file was, and `newer` when one was of its name that it replaced; `surveys` is the sum of the text that has it.
+ * `changed` is when the file was, and `newer` when one was of its name, called `than`, that isn't here any more; `surveys` is the sum of the text that has it.
  * @typedef {{name: string, place: string | null, left_over: boolean, field: string, answers?: number, certain?: number, shared?: number,
  *   open?: MaskFields[], more?: boolean, margin?: number, hidden?: MaskFields | null, deaf?: MaskFields | null, sha256?: string,
- *   object?: LogObject, denied?: string[], surveys?: string, was?: string, changed?: number, newer?: number}} OneLog
+ *   object?: LogObject, denied?: string[], surveys?: string, was?: string, changed?: number, newer?: number, than?: string}} OneLog
  */
 /**
  * The object of a collection, as docs/answers.schema.json has it.
@@ -79,7 +80,7 @@ export const KIND = Object.freeze({ COMPLETE: "complete", ABSENT: "absent", UNLI
  * @property {Unexpected[]} unexpected
  * @property {string[]} without_log
  * @property {OneLog[]} logs
- * @property {{file: string, sha256: string, changed?: number, newer?: number}[]} files what was given beside the logs
+ * @property {{file: string, sha256: string, changed?: number, newer?: number, than?: string}[]} files what was given beside the logs
  * @property {{place: string, log: string}[]} [unread] what a table of places names and isn't here, of places of which other logs are
  * @property {string[]} [both] what was answered of its files, by the keys of the questions
  * @property {string[]} [left] what is said of files that were left out, or count as others, on which the answer rests

@@ -7,7 +7,7 @@ import { count, dated, listing, printable } from "./words.mjs";
 /** @typedef {import("../judge/objects.mjs").CollectionObject} CollectionObject */
 /** @typedef {import("./shelves.mjs").Shelves} Shelves */
 /** @typedef {[string, Record<string, string>]} Button what it says and carries */
-/** @typedef {{name: string, of?: string, changed?: number, newer?: number, sha256?: string, surveys?: string}} Aged a file */
+/** @typedef {{name: string, of?: string, changed?: number, newer?: number, than?: string, sha256?: string, surveys?: string}} Aged a file */
 /**
  * In a few words, in a sentence, and what to do; whether a headline says it that isn't complete, and
  * whether one of the logs may not count; buttons, of which each leaves out one of some logs, or says that it counts, or of which place; and
@@ -136,21 +136,21 @@ export function interchanged({ logs, items }) {
 const olderOne = ({ name, changed, newer = 0, sha256, surveys }) => `${name} of ${changed}, not of ${newer}: ${sha256 || surveys}`;
 
 /**
- * Files that took the place of newer ones, each by the shelf of its log: those of which it was said that they count, and the others.
+ * Files of whose names newer ones were here, each by the shelf of its log: those of which it was said that they count, and the others.
  * @param {Aged[]} files
  * @param {string[]} [both]
  * @returns {Doubt[]}
  */
 export function older(files, both = []) {
   return [...grouped(files.filter(({ newer }) => newer), (it) => both.includes(olderOne(it))).values()].map((all) => {
-    const [{ name, changed, newer }] = all, isOne = all.length === 1, first = nameOf(name), of = all.flatMap((it) => it.of ?? []);
+    const [{ name, changed, newer, than = name }] = all, isOne = all.length === 1, of = all.flatMap((it) => it.of ?? []);
     const isNear = dated(changed) === dated(newer), when = (/** @type {number | undefined} */ time) => dated(time, isNear);
     const files = firstOf(all.map((it) => nameOf(it.name)), "and", MOST_LISTED), logs = `the log${of.length > 1 ? "s" : ""} of ${firstOf(of)}`;
     const those = listing([...all.flatMap((it) => it.of ? [] : nameOf(it.name)), ...of.length ? [logs] : []]);
     return { mayNotCount: true, cure: isOne ? COUNTS : ALL_COUNT,
-      short: isOne ? `${those} is older than the one it replaced` : `${those} are older than those they replaced`,
-      words: isOne ? `${first} of ${when(changed)} is older than the file that it replaced, of ${when(newer)}.`
-        : `${files} are older than the files that they replaced: ${first} is of ${when(changed)}, the other one of ${when(newer)}.`,
+      short: isOne ? `${those} is older than one that was here` : `${those} are older than those that were here`,
+      words: isOne ? `${files} of ${when(changed)} is older than ${nameOf(than)} of ${when(newer)}, which isn't here any more.`
+        : `${files} are older than files that aren't here any more: ${nameOf(name)} is of ${when(changed)}, ${nameOf(than)} was of ${when(newer)}.`,
       buttons: [[`The older one${isOne ? " counts" : "s count"}`, { "data-both": all.map(olderOne).join("\n") }]] };
   });
 }

@@ -122,8 +122,9 @@ function withoutAnswer({ logs }, shelves) {
 function notAsked({ logs, columns, items, status }, { isAsked }) {
   const { like, meant, noPlaces } = SENTENCES.catalogues, isLike = new RegExp(like, "i"), names = logs.map(({ name }) => stemOf(name));
   const isOfLogs = (/** @type {number} */ at, cells = new Set(items.map((it) => it.cells?.[at]))) => names.length && names.every((it) => cells.has(it));
-  const heads = isAsked ? [] : columns.filter((head, at) => isLike.test(head.normalize("NFKC")) || isOfLogs(at)).map((it) => `'${printable(it)}'`);
-  // one field needs no places, if all is there
-  return isAsked || logs.length < 2 && !(heads.length && status) ? []
+  const found = columns.map((head) => isLike.exec(head.normalize("NFKC"))), isNear = found.some((it) => it?.[1]);
+  const heads = isAsked ? [] : columns.filter((_, at) => found[at] || isOfLogs(at)).map((it) => `'${printable(it)}'`);
+  // one field needs no places, if all is there, and no column is called almost so
+  return isAsked || logs.length < 2 && !(heads.length && (isNear || status)) ? []
     : [{ short: "where each belongs wasn't asked", words: noPlaces, cure: heads.length ? meant.replace("{}", listing(heads, "or")) : NO_PLACES }];
 }

@@ -99,7 +99,7 @@ export const SENTENCES = {
   "catalogues": {
     "cut": "of which the last has no line end, so the file may have been cut off",
     "noPlaces": "The catalogue has no column 'place', so an item on a wrong shelf isn't noticed, nor a shelf that wasn't counted.",
-    "like": "^[\\W_]*(?:places?|shel(?:f|ves)|(?:shelf|place) ?marks?|locations?|rooms?|bays?|racks?|bins?|box(?:es)?|drawers?|cabinets?)[\\W_]*$",
+    "like": "^[\\W_]*(?:([p\u0440]l[a\u0430][c\u0441][e\u0435]s?)|shel(?:f|ves)|(?:shelf|place) ?marks?|locations?|rooms?|bays?|racks?|bins?|box(?:es)?|drawers?|cabinets?)[\\W_]*$",
     "meant": "If column {} says where each item belongs, rename it to place."
   },
   "parts": {
