@@ -742,6 +742,13 @@ def test_several_logs(page):
     assert page.run("return document.activeElement.textContent").startswith("!two ")
 
 
+def test_of_logs_without_a_list_it_is_not_said_that_none_is_complete(page):
+    page.drop(one=log_of("I1 RA QA I1 S"), two=log_of("I1 RB QB I1 S"))
+    page.wait(lambda: page.texts("#logs .sign") == ["i", "i"])
+    page.until("h1", "2 logs, each with its own answer.")
+    assert "omplete" not in page.texts("h1")[0]
+
+
 def test_several_logs_on_paper_are_a_record(page):
     """With the answer to each, its sum, and a line to sign; when it was printed stands there."""
     one, two = log_of("I1 RA UA"), log_of("I1 S UA")

@@ -351,11 +351,11 @@ def test_items_of_any_place_and_a_log_of_no_place(page):
     drop(page, files)
     (doubt,) = page.texts(".doubts li")
     assert "trolley.log" in doubt and look(page) == "no"
-    assert "If items of the place any are counted there, write a table of places" in doubt
+    assert "If what is there has no fixed place ('any'), write a table of places, with the" in doubt
     drop(page, {"places.csv": b"place,log\nA,A.log\ntrolley,trolley.log\n"})
     assert look(page) == "yes"
     drop(page, {"books.csv": BOTH})
-    assert "place any" not in page.said()
+    assert "fixed place" not in page.said()
 
 
 def test_paper_has_no_long_list_of_what_is_not_counted(page):
@@ -1493,11 +1493,16 @@ def test_a_list_of_logs_is_saved_once(page, tmp_path):
     uids = [f"E004{number:012X}" for number in range(500)]
     drop(page, {"books.csv": "\n".join(["uid", *uids, ""]).encode(),
                 **{f"field {number}.log": log_of("I16 S S") for number in range(100)}})
+    unfold = "document.querySelector('#told > details:not(:has(.logs))').open = true"
+    page.run(unfold)
+    page.until("td", "field 0.log")
     heading, may_be = page.texts("h1"), "\n".join(page.run(CELLS))
     made = saved(page, tmp_path / "saved")
     told, _ = drawn_in(made.read_text())
     assert told["lists"] == [list(range(100))] and len(json.dumps(told["items"])) < 200 * len(uids)
     page.open(made)
+    page.run(unfold)
+    page.until("td", "field 0.log")
     assert page.texts("h1") == heading and "\n".join(page.run(CELLS)) == may_be
     assert may_be.startswith("field 0.log, field 1.log, field 2.log or 97 more")
 

@@ -1,7 +1,7 @@
 /** Shows what is here: several logs, each with what it says, and what is told of one. */
 import { collectionView } from "./draw/collection.mjs";
 import { at, button, el } from "./draw/elements.mjs";
-import { banner, signed, view } from "./draw/view.mjs";
+import { banner, notes, signed, view } from "./draw/view.mjs";
 import { isStrange, kindOf } from "./judge/files.mjs";
 import { KIND } from "./judge/objects.mjs";
 import { isLacking, isUnanswered } from "./opened.mjs";
@@ -67,7 +67,7 @@ function nodesOf(entry, opener, canLeave) {
     ...given && files ? leavingOut(given, files) : []];
   // what stands below isn't said twice
   const more = (collection?.left ?? []).reduce((words, it) => words.replace(it, ""), note).trim();
-  const noted = more ? [el("p", { class: "note" }, printable(more))] : [];
+  const noted = notes(more ? [printable(more)] : []);
   if (error) return [...noted, banner({ look: "refused", sign: "?", headline: unanswered(name, error), lights: [] }, printable(name)), ...said];
   if (waits) return [...noted, el("h1", {}, waits), ...said];
   return collection ? [...noted, ...collectionView(collection, opener, canLeave)] : told ? [...noted, ...view(told, undefined, true, true)] : [];
@@ -87,7 +87,7 @@ function leavingOut({ tables, logs }, files) {
 }
 
 /**
- * Shows several logs with what each says. Of all together nothing is said but how many are complete, once all are judged.
+ * Shows several logs with what each says. Of all together nothing is said but how many are complete, once all are judged, if any has a list.
  * @param {Entry[]} entries
  * @param {number} current which is shown, less than 0 if none is
  */
@@ -100,16 +100,18 @@ export function overview(entries, current) {
   list.querySelectorAll("button").forEach((button, index) => label(button, entries[index], index === current));
   const tolds = entries.flatMap(({ name, told }) => told ? { name, told } : []), foreign = tolds.filter(({ told }) => isForeign(told)).length;
   const whole = entries.filter(({ told, said }) => told?.object.kind === KIND.COMPLETE && !said?.doubts.length).length, logs = many - foreign;
-  const how = entries.some(isUnanswered) || !logs ? "" : ` Complete: ${whole.toLocaleString("en")} of ${logs.toLocaleString("en")}.`;
+  const isCounted = !entries.some(isUnanswered) && (whole || tolds.some(({ told }) => told.counts.listed));
+  const how = isCounted ? ` Complete: ${whole.toLocaleString("en")} of ${logs.toLocaleString("en")}.` : "";
   const others = foreign ? ` ${count(foreign, "file isn't a log", "files aren't logs")}.` : "";
   const words = `${count(logs, "log")}${logs > 1 ? ", each with its own answer" : ""}.${how}${others}`;
-  const notes = current < 0 ? [...new Set(entries.flatMap(({ note }) => note || []))].map((it) => el("p", { class: "note" }, printable(it))) : [];
-  each.append(...notes, el(current < 0 ? "h1" : "p", {}, words), el("p", { class: "hint" }, PRESS));
+  const above = current < 0 ? notes([...new Set(entries.flatMap(({ note }) => note ? printable(note) : []))]) : [];
+  each.append(...above, el(current < 0 ? "h1" : "p", {}, words), el("p", { class: "hint" }, PRESS));
   if (current >= 0) return;
   const sums = tolds.map(({ name, told: { object: { answer, sha256 } } }) =>
     el("p", {}, `${printable(name)}: ${answer} · SHA-256 `, el("code", {}, sha256)));
   const version = tolds.length ? `, by vicinity ${tolds[0].told.object.version}` : "";
-  shown.replaceChildren(el("footer", { class: "record" }, ...sums, ...signed([words, ...entries.flatMap(({ said }) => said?.answered ?? [])], `${count(many, "file")}${version}`)));
+  const all = [words, ...entries.flatMap(({ said }) => said?.answered ?? [])];
+  shown.replaceChildren(el("footer", { class: "record" }, ...sums, ...signed(all, `${count(many, "file")}${version}`)));
   headed(words);
 }
 

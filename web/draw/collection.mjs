@@ -17,6 +17,8 @@ import { banner, doubted, notes, signed, view } from "./view.mjs";
 /** @typedef {import("../judge/objects.mjs").CollectionObject} CollectionObject */
 /** @typedef {import("../judge/objects.mjs").Item} Item */
 /** @typedef {import("../judge/objects.mjs").OneLog} OneLog */
+/** @typedef {import("../say/shelves.mjs").Shelves} Shelves */
+/** @typedef {import("./items.mjs").Cell} Cell */
 /** @typedef {(at: number) => null | (() => Promise<Told | undefined>)} Opener what is told of a log, by its number, if it can be had */
 
 /** How many logs are drawn, how many items are seen unfolded, how many stand on paper that are here, and how many masks are named. */
@@ -64,14 +66,14 @@ export function collectionView(object, opener = () => null, canLeave) {
   return [...above, banner(said, `${file} · ${count(logs.length, "log")}${spanOf(logs)}`), ...asked,
     ...(isComplete || object.wanted) && !doubts.length ? [el("h2", {}, "At the shelves"), el("ul", { class: "steps" }, steps)] : [],
     ...isKnown ? conditions : [], ...drawn("Count again", again + (isBroken ? AGAIN_BROKEN : ""), open, true),
-    ...part("At the shelves", todo, doubts.every((it) => !it.numbers), look, () => shelved(todo, shelves, at, {}, (item) => shelves.toDo(item))),
-    ...part("Heard in logs of no place", strays, false, STRAYS, () => shelved(strays, shelves, at, { "belongs to": home }), false),
-    ...part("Not heard on their shelves", elsewhere, true, ELSEWHERE, () => shelved(elsewhere, shelves, home, mayBe)),
-    ...part("Without a tag", of("no tag"), true, NO_TAG, () => shelved(of("no tag"), shelves, home, {}, () => "look for")),
-    ...part("Not counted", of("not counted"), counts["not counted"] <= MOST_LISTED, NOT_COUNTED, () => shelved(of("not counted"), shelves, home), false),
-    ...part("Not known yet", others, others.length <= MOST_LISTED, UNKNOWN_YET, () => shelved(others, shelves, home, others.every(home) ? {} : mayBe), false),
+    ...part("At the shelves", todo, doubts.every((it) => !it.numbers), look, [shelves, at, {}, (item) => shelves.toDo(item)]),
+    ...part("Heard in logs of no place", strays, false, STRAYS, [shelves, at, { "belongs to": home }], false),
+    ...part("Not heard on their shelves", elsewhere, true, ELSEWHERE, [shelves, home, mayBe]),
+    ...part("Without a tag", of("no tag"), true, NO_TAG, [shelves, home, {}, () => "look for"]),
+    ...part("Not counted", of("not counted"), counts["not counted"] <= MOST_LISTED, NOT_COUNTED, [shelves, home], false),
+    ...part("Not known yet", others, others.length <= MOST_LISTED, UNKNOWN_YET, [shelves, home, others.every(home) ? {} : mayBe], false),
     ...isKnown ? [] : conditions,...drawn("Ask all once more", ONCE_AGAIN, hiding),
-    ...part("Here", here, false, "", () => shelved(here, shelves, home), false, `Here (${count(here.length, "item")})`),
+    ...part("Here", here, false, "", [shelves, home], false, `Here (${count(here.length, "item")})`),
     ...drawn("Searched to the end", "", done.filter((it) => !hiding.includes(it))), ...grantedOfAll(object), recordOfAll(object)];
 }
 
@@ -90,17 +92,13 @@ function spanOf(logs) {
  * @param {Item[]} list
  * @param {boolean} open
  * @param {string} words
- * @param {() => Element[]} draw a table first
+ * @param {[Shelves, Cell, Record<string, Cell>?, Cell?]} how its table is drawn
  * @param {boolean} [isTodo]
  * @param {string} [head]
  */
-function part(title, list, open, words, draw, isTodo = true, head = `${title} (${list.length.toLocaleString("en")})`) {
+function part(title, list, open, words, how, isTodo = true, head = `${title} (${list.length.toLocaleString("en")})`) {
   const isCut = !isTodo && list.length > MOST_PRINTED;
-  const it = drawnLater(head, open && list.length <= FEW_ITEMS, () => {
-    const drawn = draw();
-    drawn[0]?.prepend(el("caption", {}, title));
-    return [...words ? [el("p", {}, words)] : [], ...drawn];
-  });
+  const it = drawnLater(head, open && list.length <= FEW_ITEMS, () => [...words ? [el("p", {}, words)] : [], ...shelved(title, list, ...how)]);
   it.classList.toggle("aside", isCut);
   const its = isCut ? [...grouped(list, ({ place }) => printable(place ?? "any place"))] : [];
   const onPaper = `${head}: ${firstOf(its.map(([place, { length }]) => `${place}\u00A0(${length.toLocaleString("en")})`), "and", MOST_PRINTED)}. ${IN_FULL}`;

@@ -10,8 +10,8 @@ import { count, listing, printable } from "./words.mjs";
 /** @typedef {import("./copies.mjs").Doubt} Doubt */
 /** @typedef {import("./shelves.mjs").Shelves} Shelves */
 
-const OTHERS = "An old one, or one of another collection, leave out.", NAME_IT = "Give each the name of its place. ";
-const ANY = "If items of the place any are counted there, write a table of places, with the columns place and log, in which each log has one. ";
+const OTHERS = "An old one, or one of another collection, leave out.", NAME_IT = "Call a log as its place. ";
+const ANY = "If what is there has no fixed place ('any'), write a table of places, with the columns place and log: it says of which place each log is. ";
 const NO_PLACE = "The catalogue names no place: delete its column place, or fill it.";
 const NONE_NAMED = "names none of these logs: correct its column log. Without it, each log is of the place after which it is named.";
 const NO_PLACES = "If items can stand on wrong shelves, add a column 'place', and name each log after its place.";

@@ -59,10 +59,8 @@ export const SENTENCES = {
     "turned": ["the bytes of the UID are in the opposite order, with E0 last",
       "Turn the bytes of each UID round, so that E0 comes first: A1000000000104E0 is E0040100000000A1."]
   },
-  "first": {
-    "\u0000": ["it seems to be UTF-16", "Save it as ASCII or UTF-8."], "\uFEFF": ["it begins with a byte order mark", "Save it as UTF-8 without one."],
-    "\r": ["its lines end with CR alone", "Save it with LF, or CR LF, at the end of each line: a system or an editor calls these Unix or Windows."]
-  },
+  "first": { "\u0000": ["it seems to be UTF-16", "Save it as ASCII or UTF-8."], "\uFEFF": ["it begins with a byte order mark", "Save it as UTF-8 without one."],
+    "\r": ["its lines end with CR alone", "Save it with LF, or CR LF, at the end of each line: editors call these Unix and Windows."] },
   "aLog": ["^(?:vicinity-(?!survey )|[TRHU] [0-9A-F]|[SCDNF]$|#)", "A log is text from the reader's software; its first line begins with 'vicinity-log'."],
   "files": {
     "surveys": ["^vicinity-survey ", ", but a text of surveys, which says what logs say of their fields", "Open it together with a catalogue (CSV)."],
