@@ -74,11 +74,7 @@ function quiet() {
 }
 
 for (const it of [stop, back, close, at("example")]) it.addEventListener("click", () => { now.isPressed = true; });
-stop.addEventListener("click", () => {
-  now.stopping.abort();
-  now.stopping = new AbortController();
-  work.stop();
-});
+stop.addEventListener("click", () => { now.stopping.abort(); now.stopping = new AbortController(); work.stop(); });
 
 // What is shown
 
@@ -234,8 +230,7 @@ document.addEventListener("paste", (event) => {
   const text = event.clipboardData?.getData("text/plain");
   if (!pasted.length && (!text || isInField(event))) return;
   event.preventDefault();
-  if (pasted.length) open(pasted);
-  else open([new File([text ?? ""], PASTED)], PASTED);
+  if (pasted.length) open(pasted); else open([new File([text ?? ""], PASTED)], PASTED);
 });
 unfoldOnPaper();
 if (document.body.classList.contains("empty")) draw();

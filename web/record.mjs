@@ -13,8 +13,7 @@ if ("items" in object) {
   const { lists = [] } = object, listOf = (/** @type {number[] | number} */ it) => typeof it === "number" ? lists[it] : it;
   for (const item of [...object.items, ...object.unexpected])
     Object.assign(item, { certain_in: listOf(item.certain_in), possible_in: listOf(item.possible_in) });
-  const opener = (/** @type {number} */ number) => object.logs[number].object ? async () => tell(object.logs[number].object) : null;
-  shown.replaceChildren(...collectionView(object, opener));
+  shown.replaceChildren(...collectionView(object, (number, of = object.logs[number].object) => of ? async () => tell(of) : null));
 } else {
   const told = tell(object), pane = new Pane(/** @type {HTMLTextAreaElement} */ (at("text")), shown);
   shown.replaceChildren(...view(told));

@@ -48,8 +48,7 @@ export class Pane {
     const before = lines.join(NEW_LINE).length + (above > 0 ? 1 : 0), end = this.field.value.indexOf(NEW_LINE, before);
     this.field.focus();
     this.field.setSelectionRange(before, end < 0 ? this.field.value.length : end);
-    const height = parseFloat(getComputedStyle(this.field).lineHeight);
-    this.field.scrollTop = Math.max(0, (above - 2) * height);
+    this.field.scrollTop = Math.max(0, (above - 2) * parseFloat(getComputedStyle(this.field).lineHeight));
     this.shown.querySelector(".here")?.classList.remove("here");
     this.shown.querySelector(`td[data-line="${line}"]`)?.classList.add("here");
   }

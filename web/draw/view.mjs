@@ -28,8 +28,9 @@ export function view(told, names = new Map(), isAlone = true, canPress = false) 
   const said = say(told, isAlone), file = printable(told.object.file), { answer, kind } = told.object;
   // without a list, its first tag isn't more than the others
   const what = kind === KIND.UNLISTED && !told.counts.listed ? [file] : [file, el("span", { class: "paper" }, " · ", el("code", {}, answer))];
-  return [...notes(said.answered), banner(said, what), ...doubted("The file", said.doubts, () => canPress), ...shelf(said), ...conditions(told), ...findings(told, names), ...tags(told, names),
-    ...maintainer(told, said, () => [...rounds(told, names), ...conflict(told)]), ...takenForGranted(told), record(told, isAlone, said)];
+  return [...notes(said.answered), banner(said, what), ...doubted("The file", said.doubts, () => canPress), ...shelf(said),
+    ...conditions(told), ...findings(told, names), ...tags(told, names), ...maintainer(told, said, () => [...rounds(told, names), ...conflict(told)]),
+    ...takenForGranted(told), record(told, isAlone, said)];
 }
 
 /** @param {string[]} all what was done, or answered */
@@ -117,8 +118,7 @@ function conflict({ conflict: it, object }) {
   if (!it || it.count <= FEW_LINES) return [];
   const shown = object.findings.flatMap(({ kind, line }) => kind === "conflict" && line ? line : []).slice(0, MOST_LINES_NAMED);
   const items = () => oneStop(el("p", {}, shown.flatMap((line) => [toLine(line, String(line)), " "])));
-  const title = `The ${count(it.count, "line")} that can't all be true`;
-  return [drawnLater(title, false, () => [items(), ...rest(it.count - shown.length)])];
+  return [drawnLater(`The ${count(it.count, "line")} that can't all be true`, false, () => [items(), ...rest(it.count - shown.length)])];
 }
 
 /**
@@ -138,11 +138,9 @@ function tags({ object: { certain, found } }, names) {
  * @param {Told} told
  */
 function takenForGranted(told) {
-  const { kind, status } = told.object;
-  if (kind === KIND.REFUSED) return [];
-  const all = granted(told.conflict ? !told.counts.alone : isApart(told));
+  const { kind, status } = told.object, all = granted(told.conflict ? !told.counts.alone : isApart(told));
   const title = told.conflict ? "At least one of these didn't hold" : "What this takes for granted";
-  return [folded(`${title} (${all.length})`, !status, bullets(all))];
+  return kind === KIND.REFUSED ? [] : [folded(`${title} (${all.length})`, !status, bullets(all))];
 }
 
 /**

@@ -54,9 +54,8 @@ export function causesOf(log, masks) {
   /** @type {Map<string, Unread>} */
   const unread = new Map(), explained = new Set(), causing = /** @type {Unread[]} */ ([]);
   for (const slot of masks.length ? unreadSlots(log, mayAsk) : []) {
-    const { len, value } = slot.mask;
-    if (!unread.has(key(len, value))) unread.set(key(len, value), slot);
-    const around = within(slot.mask);
+    const name = key(slot.mask.len, slot.mask.value), around = within(slot.mask);
+    if (!unread.has(name)) unread.set(name, slot);
     if (!around || explained.has(around) && causing.length >= MOST_CAUSING) continue;
     causing.push(slot);
     explained.add(around);

@@ -68,9 +68,7 @@ export class Log {
    * @param {number} line
    */
   line(line) {
-    const from = this.#starts[line - 1];
-    let to = this.#starts[line] - 1;
-    if (this.text[to] === LF && this.text[to - 1] === CR) to--;
+    const from = this.#starts[line - 1], end = this.#starts[line] - 1, to = this.text[end] === LF && this.text[end - 1] === CR ? end - 1 : end;
     return LINES.decode(this.text.subarray(from, Math.min(to, from + LONGEST)));
   }
 

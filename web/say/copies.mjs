@@ -144,13 +144,13 @@ const olderOne = ({ name, changed, newer = 0, sha256, surveys }) => `${name} of 
 export function older(files, both = []) {
   return [...grouped(files.filter(({ newer }) => newer), (it) => both.includes(olderOne(it))).values()].map((all) => {
     const [{ name, changed, newer, than = name }] = all, isOne = all.length === 1, of = all.flatMap((it) => it.of ?? []);
-    const isNear = dated(changed) === dated(newer), when = (/** @type {number | undefined} */ time) => dated(time, isNear);
+    const [when, before] = [changed, newer].map((time) => dated(time, dated(changed) === dated(newer)));
     const files = firstOf(all.map((it) => nameOf(it.name)), "and", MOST_LISTED), logs = `the log${of.length > 1 ? "s" : ""} of ${firstOf(of)}`;
     const those = listing([...all.flatMap((it) => it.of ? [] : nameOf(it.name)), ...of.length ? [logs] : []]);
     return { mayNotCount: true, cure: isOne ? COUNTS : ALL_COUNT,
       short: isOne ? `${those} is older than one that was here` : `${those} are older than those that were here`,
-      words: isOne ? `${files} of ${when(changed)} is older than ${nameOf(than)} of ${when(newer)}, which isn't here any more.`
-        : `${files} are older than files that aren't here any more: ${nameOf(name)} is of ${when(changed)}, ${nameOf(than)} was of ${when(newer)}.`,
+      words: isOne ? `${files} of ${when} is older than ${nameOf(than)} of ${before}, which isn't here any more.`
+        : `${files} are older than files that aren't here any more: ${nameOf(name)} is of ${when}, ${nameOf(than)} was of ${before}.`,
       buttons: [[`The older one${isOne ? " counts" : "s count"}`, { "data-both": all.map(olderOne).join("\n") }]] };
   });
 }

@@ -21,8 +21,7 @@ const HELD = { collision: "two or more tags answered", garbled: "something answe
  * @param {Told} told
  */
 export function whyOpen({ causes, silenced, neverAsked, counts, last }) {
-  const [first] = silenced, one = silenced.length === 1;
-  const which = one ? `Line ${first.line} silenced ${short(first.uid)} before it was`
+  const [first] = silenced, one = silenced.length === 1, which = one ? `Line ${first.line} silenced ${short(first.uid)} before it was`
     : `L${lines(silenced.map(({ line }) => line)).slice(1)} silenced ${count(silenced.length, "tag")} before they were`;
   const silent = `${which} heard: replies before aren't in the log, or the reader had ${one ? "the UID" : "the UIDs"} from an earlier count.`;
   return [...causes.length > MOST_CAUSES ? [`The search stopped with the round of line ${last}.`] : [],...ORDER.flatMap((reading) => {
