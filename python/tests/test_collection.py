@@ -155,6 +155,18 @@ class Asked(Command):
         self.assertEqual([it.get("object", {}).get("file") for it in told["logs"]],
                          ["a", "large", None, "open"])
 
+    def test_a_log_in_a_text_of_surveys_is_as_old_as_this(self):
+        """Whatever file has the name of the log, even if it is the text of surveys itself."""
+        catalogue, name = self.catalogue("uid\nE0040100000000A1\n"), self.write("a.log", NOTHING)
+        survey = vicinity.survey(log(ALL + HEARD_A), name).text
+        for surveys in (self.write("old.surveys", survey), self.write("a.log", survey)):
+            os.utime(surveys, (15693, 15693))
+            said, errors, status = within("collection", "--page", catalogue, surveys)
+            self.assertEqual((errors, status), (b"", 0))
+            drawn = drawn_in(said.decode())[0]["logs"]
+            self.assertEqual([(it["name"], it["changed"], it.keys() & {"sha256", "object"})
+                              for it in drawn], [(name, 15693_000, set())])
+
     def test_a_log_that_changes_meanwhile(self):
         """What is said of the first is never said beside the second."""
         name, catalogue = self.write("a.log", log(ALL + HEARD_A)), self.catalogue("uid\nnone\n")
