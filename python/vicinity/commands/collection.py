@@ -8,7 +8,7 @@ from hashlib import sha256
 from typing import Any, Iterator, Sequence
 
 from .._native import VERSION, library
-from .._objects import NOT_COMPLETE, Object, too_small
+from .._objects import NOT_COMPLETE, Object, object_of, too_small
 from .._process import (Arguments, NoAnswer, complain, names_of, read, read_log, shown,
                         tell_terminal, write)
 from .._run import Written, run
@@ -134,6 +134,9 @@ def _page(files: Files, logs: set[str], found: Object) -> Iterator[str]:
         room -= len(text)
         if text and room >= 0:
             log["object"] = page_object(shown(os.path.basename(name)), JudgedLog(text))
+        elif text:
+            log["denied"] = [tag["uid"] for tag in object_of(text)["findings"]
+                             if tag["kind"] == "absent"]
     tables = _tables(files)
     name = shown(os.path.basename(next(name for name, text in tables if columns_of(text))))
     found.update(version=VERSION, file=name, files=[
