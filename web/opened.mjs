@@ -111,8 +111,8 @@ export function gathered(taken, entries) {
   const [first] = entries, earlier = first?.given, before = entries.flatMap((it) => it.given?.logs ?? it);
   const known = taken.filter((it) => !earlier || !strangeness(it)), isWhole = known.some(isCatalogue) && !known.every(isATable);
   // one of a log's name is a new count of it, which wasn't read: the old one doesn't count beside it
-  const here = before.flatMap((it) => [it, ...surveyedIn(it).map((name) => ({ name }))]), past = earlier?.left ?? first?.left ?? [];
-  const isNew = (/** @type {Entry} */ it) => !isATable(it) && sameAs([it], here).length > 0;
+  const names = before.flatMap((it) => [it, ...surveyedIn(it).map((name) => ({ name }))]), past = earlier?.left ?? first?.left ?? [];
+  const isNew = (/** @type {Entry} */ it) => !isATable(it) && sameAs([it], names).length > 0;
   const out = taken.filter((it) => !isWhole && !known.includes(it) && !isNew(it)), rest = taken.filter((it) => !out.includes(it));
   const left = leftAs(out, (it) => `left out: ${strangeness(it)}`), said = wasEach(left).join(" ");
   if (earlier && !rest.length) return [collected({ ...earlier, left: [...past, ...left] }, `${said} The collection is still here.`)];
@@ -129,8 +129,9 @@ export function gathered(taken, entries) {
   }
   const others = isJoining && !earlier ? entries : [], [unnamed, strange] = [others.filter(isPasted), others.filter(isStrange)];
   const more = [...left, ...leftAs(unnamed, () => "left out: what is pasted has no name"), ...leftAs(strange, () => `left out: ${NO_LOG}`)];
-  const none = { tables: [], before: [], both: others.flatMap(({ both = [] }) => both) }, kept = others.filter((it) => !unnamed.includes(it) && !strange.includes(it));
-  return [joined({ ...isJoining && earlier || { ...none, logs: kept }, left: [...over, ...more] }, tables, logs, [note, ...wasEach(more)].join(" "), first)];
+  const kept = others.filter((it) => !unnamed.includes(it) && !strange.includes(it)), both = others.flatMap((it) => it.both ?? []);
+  const here = isJoining && earlier || { tables: [], before: [], both, logs: kept };
+  return [joined({ ...here, left: [...over, ...more] }, tables, logs, [note, ...wasEach(more)].join(" "), first)];
 }
 
 /**

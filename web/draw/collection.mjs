@@ -21,10 +21,9 @@ import { banner, doubted, notes, signed, view } from "./view.mjs";
 /** @typedef {import("./items.mjs").Cell} Cell */
 /** @typedef {(at: number) => null | (() => Promise<Told | undefined>)} Opener what is told of a log, by its number, if it can be had */
 
-/** How many logs are drawn, how many items are seen unfolded, how many stand on paper that are here, and how many masks are named. */
-const MOST_LOGS = 2000, FEW_ITEMS = 200, MOST_PRINTED = 100, MOST_MASKS = 3;
-/** How many cells of the catalogue are the name of an item. */
-const MOST_CELLS = 2;
+/** How many logs are drawn, how many items are seen unfolded, how many stand on paper that are here, how many masks are named, and how
+ *  many cells of the catalogue are the name of an item. */
+const MOST_LOGS = 2000, FEW_ITEMS = 200, MOST_PRINTED = 100, MOST_MASKS = 3, MOST_CELLS = 2;
 const LOOK_FOR = "One that you find: its tag is covered, broken or not the one in the catalogue, or its reply was lost; move it, and count " +
   "again. One that you don't find: leave its row in the catalogue. ";
 const NOT_EXPECTED = "What isn't in the catalogue: find it by reading the items one by one, and bring it to where it belongs, or add it. ";

@@ -8,10 +8,9 @@ import { el, rest } from "./elements.mjs";
 /** @typedef {import("../say/shelves.mjs").Shelves} Shelves */
 /** @typedef {(item: Item) => string} Cell */
 
-/** How many rows are drawn, and of how many columns at most each has one. */
-const MOST_ROWS = 2000, MOST_COLUMNS = 8;
-/** How many characters a name has at most that says no more than which shelf it is. */
-const MOST_BARE = 4, SHELF = "shelf", UID = "UID";
+/** How many rows are drawn, of how many columns at most each has one, and how many characters a name has at most that says no more than
+ *  which shelf it is. */
+const MOST_ROWS = 2000, MOST_COLUMNS = 8, MOST_BARE = 4, SHELF = "shelf", UID = "UID";
 
 /**
  * A table of items with a caption, those of a shelf below its name: what to do, what the catalogue says of each, where it may be, and last its UID.

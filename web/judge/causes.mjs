@@ -12,10 +12,9 @@ import { grouped } from "./groups.mjs";
 
 /** Of one round first what wasn't reached, as that is where the reader stopped. */
 export const ORDER = ["unreached", "unknown", "collision", "garbled", "captured"];
-/** After so many slots only those are looked for that explain one more mask. */
-const MOST_CAUSING = 1000;
-/** How many bits the masks have at least of which each UID may have been silenced. */
-const LEAST_SILENCED = UID_BITS - 6;
+/** After so many slots only those are looked for that explain one more mask; so many bits the masks have at least of which each UID may
+ *  have been silenced. */
+const MOST_CAUSING = 1000, LEAST_SILENCED = UID_BITS - 6;
 
 /** @param {number} len @param {bigint} value */
 const key = (len, value) => `${len}:${BigInt.asUintN(len, value)}`;

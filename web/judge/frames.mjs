@@ -9,21 +9,14 @@
 /** The Nb_slots_flag in the flags, which is the Address_flag without inventory; the bits that say the link; the command of a
  *  Stay Quiet request. */
 const ONE_SLOT = 0x20, ADDRESSED = 0x20, INVENTORY_FLAG = 4, LINK = 3, INVENTORY = 1, STAY_QUIET = 2;
-/** Where the digits of the command, and of the length of a mask, begin. */
-const COMMAND_AT = 2, LENGTH_AT = 4;
-/** One subcarrier, high data rate. */
-export const ANY_LINK = 2;
-export const SLOTS = 16;
-const SLOT_BITS = 4;
-/** The bits of a UID, and those in which UIDs differ; the others are those of E0. */
-export const UID_LEN = 64, UID_BITS = 56;
-/** The bits of the longest mask that sixteen slots have. */
-const MOST_ASKED = 60;
-/** Where the digits of a request's mask and of a UID begin. */
-const VALUE_AT = 6, UID_AT = 4, UID_DIGITS = 16;
+/** One subcarrier, high data rate; the bits of a UID, and those in which UIDs differ: the others are those of E0. */
+export const ANY_LINK = 2, SLOTS = 16, UID_LEN = 64, UID_BITS = 56;
+/** The bits of a slot's number, and of the longest mask that sixteen slots have. */
+const SLOT_BITS = 4, MOST_ASKED = 60;
+/** Where the digits of the command, of the length of a mask, of its value and of a UID begin, and how many that has. */
+const COMMAND_AT = 2, LENGTH_AT = 4, VALUE_AT = 6, UID_AT = 4, UID_DIGITS = 16;
 /** ISO/IEC 13239, 16-bit FCS: so many digits at the end of a frame. */
-const CRC_DIGITS = 4;
-const CRC_START = 0xFFFF, CRC_POLYNOMIAL = 0x8408;
+const CRC_DIGITS = 4, CRC_START = 0xFFFF, CRC_POLYNOMIAL = 0x8408;
 
 /**
  * @param {bigint | number} value

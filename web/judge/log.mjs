@@ -22,10 +22,9 @@ for (const [letter, reading] of LETTERS) READINGS[codeOf(letter)] = reading;
 const REPLIES = new Set(["heard", "captured"]), UNREAD = new Set(["captured", "collision", "garbled", "unknown"]);
 /** Where a frame begins in its line; the digits in it that say that a round has one slot, and that a request is a Stay Quiet. */
 const FRAME_AT = 2, OF_ONE_SLOT = [0, codeOf("2")], SILENCING = [3, codeOf("2")];
-/** A log has no more lines, and none that is longer: of what is refused the rest isn't looked at. */
-const MOST_LINES = 1_000_000, LONGEST = 4096;
-/** A byte order mark stays, since it is why a text is refused. */
-const LINES = new TextDecoder("utf-8", { ignoreBOM: true });
+/** A log has no more lines, and none that is longer: of what is refused the rest isn't looked at. A byte order mark stays, since it is why
+ *  a text is refused. */
+const MOST_LINES = 1_000_000, LONGEST = 4096, LINES = new TextDecoder("utf-8", { ignoreBOM: true });
 
 /** The lines of a text, by their numbers from 1, and where its rows are. */
 export class Log {

@@ -42,12 +42,11 @@ export function doubtsOf(object, shelves) {
  */
 function notHere({ unread = [], files, file }) {
   const table = files.find((it) => it.file !== file), name = printable(table?.file ?? ""), isOne = unread.length === 1;
-  const those = (/** @type {string} */ of) => unread.map(({ place, log }) => printable(`${log} ${of} ${place}`));
+  const those = (/** @type {string} */ of) => unread.map(({ place, log }) => printable(`${log} ${of} ${place}`)), key = [table?.sha256, those("of")].join();
   const [they, them, is] = isOne ? ["It isn't", "its row", "isn't"] : ["They aren't", "their rows", "aren't"];
   return !unread.length ? [] : [{ isFirst: true, mayNotCount: true, short: `no log ${firstOf(those("of"))}, as ${name} names`,
     words: `${name} names ${firstOf(those("for"), "and", MOST_LISTED)}, which ${is} here: what may be there isn't counted.`,
-    cure: `Open ${isOne ? "it" : "them"} too, or delete ${them} in ${name}.`,
-    buttons: [[`${they} of this count`, { "data-both": [table?.sha256, ...unread.map(({ log }) => log)].join() }]] }];
+    cure: `Open ${isOne ? "it" : "them"} too, or delete ${them} in ${name}.`, buttons: [[`${they} of this count`, { "data-both": key }]] }];
 }
 
 /**

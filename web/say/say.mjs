@@ -29,9 +29,8 @@ import { whyOpen } from "./why.mjs";
  * @property {string[]} answered and what was answered
  */
 
-const AGAIN = "Count again, to the end.";
+const AGAIN = "Count again, to the end.", CYCLE = "Switch the reader off and on, and count again.";
 const NEW_LOG = "Count again, in a new log: with less interference, tags that lie still and not on top of each other, and no second reader.";
-const CYCLE = "Switch the reader off and on, and count again.";
 const LOOK = "Or look whether what isn't proved is there: the answer speaks only of what the log shows.";
 export const IF_HEARD = "Nothing to do at the shelves. Whoever maintains the readers can let them show that they heard to the end, as said below.";
 const ONE_ROUND = "To see whether others are here: run the inventory again, to a last round that no tag answers.";

@@ -11,8 +11,7 @@ import { count, ending, numbered } from "./words.mjs";
 /** What a complete answer speaks of. */
 export const HOLDS = SENTENCES.answers.holds;
 /** How it is said whether an answer about tags would also be that of a log whose replies may have hidden others. */
-const IF_HIDDEN = "If a strong reply hid a weaker one, the answer ";
-const IF_DEAF = "If the reader had gone deaf after the last answer of a tag, the answer ";
+const IF_HIDDEN = "If a strong reply hid a weaker one, the answer ", IF_DEAF = "If the reader had gone deaf after the last answer of a tag, the answer ";
 /** @param {string} [where] */
 export const deafIn = (where = "") => `${IF_DEAF}may be wrong${where}. To know, switch the field off and on, and let the reader ask once more ` +
   "for a tag that was found.";

@@ -6,9 +6,8 @@ import { count, lines, listing, short, whom } from "./words.mjs";
 /** @typedef {import("../judge/told.mjs").Told} Told */
 /** @typedef {import("../judge/causes.mjs").Cause} Cause */
 
-const NOT_SETTLED = "no later request settled all of these UIDs";
 /** How many rounds that hold the same are told one by one, and how many of more are named. */
-const MOST_CAUSES = 6, MOST_NAMED_ROUNDS = 4;
+const MOST_CAUSES = 6, MOST_NAMED_ROUNDS = 4, NOT_SETTLED = "no later request settled all of these UIDs";
 /**
  * What a slot held that wasn't read.
  * @type {Record<string, string>}
