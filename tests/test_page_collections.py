@@ -391,6 +391,14 @@ def test_places_that_are_called_like_copies_are_none(page):
     assert look(page) == "yes"
 
 
+@pytest.mark.parametrize("name", ["place\u00a0", "Places", "_place_", "pl\u0430ce"])
+def test_one_log_and_a_column_that_is_nearly_called_place(page, name):
+    """The item may be of another place: whoever wrote that column meant to say it."""
+    drop(page, {"books.csv": books((UID_A, ",B"), head=f"uid,title,{name}"), "A.log": field(UID_A)})
+    assert look(page) == "read" and "But where each belongs wasn't asked." in page.texts("h1")[0]
+    assert "rename it to place." in page.texts(".doubts")[0]
+
+
 def test_one_log_needs_no_places(page):
     """With one field there is nothing to confuse."""
     drop(page, {"books.csv": books((UID_A, ""), head="uid,title"), "A.log": field(UID_A)})
@@ -656,24 +664,25 @@ def test_a_collection_with_its_catalogue_is_one_of_its_own(page):
 
 
 def test_a_collection_of_older_files_is_asked_about(page):
-    """That of last week, dropped whole over that of today: one answer is enough for all its logs,
+    """That of last week, dropped whole over that of today: one answer is enough for all its files,
     and stands on the page from then on."""
     drop(page, {**COMPLETE, "B.log": field()}, {name: NOON for name in COMPLETE})
     page.until("h1", "1 item missing")
     drop(page, COMPLETE, {name: NOON - HOUR for name in COMPLETE})
-    assert page.texts("h1") == ["All 2 expected items are in some log; but the logs of A and B are "
-                                "older than those they replaced."]
+    assert page.texts("h1") == ["All 2 expected items are in some log; but books.csv and the logs "
+                                "of A and B are older than those that were here."]
     (words,) = page.texts(".doubts b")
-    assert re.match(r"A.log and B.log are older than the files that they replaced: A.log is of 18 "
-                    r"Nov 2026, \d\d:\d6, the other one of 18 Nov 2026, \d\d:\d6\.$", words)
+    assert re.match(r"books.csv, A.log and B.log are older than files that aren't here any more: "
+                    r"books.csv is of 18 Nov 2026, \d\d:\d6, books.csv was of 18 Nov 2026, "
+                    r"\d\d:\d6\.$", words)
     assert look(page) == "read" and page.texts(".doubts button") == ["The older ones count"]
     page.press(".doubts button")
     page.until(".banner.yes h1", "All 2 expected items are here, and no others.")
     assert page.texts(".note") == [f"{words} It was answered here: 'The older ones count'."]
     drop(page, {"A.log": field(UID_A, asks=2)}, {"A.log": NOON - HOUR // 2})
     assert page.texts("h1") == [
-        "All 2 expected items are in some log; but the log of A is older than the one it replaced."]
-    assert [it for it in page.texts(".note") if it.startswith("B.log of 18 Nov 2026, ")]
+        "All 2 expected items are in some log; but the log of A is older than one that was here."]
+    assert [it for it in page.texts(".note") if it.startswith("books.csv and B.log are older")]
 
 
 @pytest.mark.parametrize(("press", "headline"), [
@@ -969,13 +978,13 @@ def test_an_older_file_that_replaces_a_newer_one_is_not_green(page, tmp_path):
     drop(page, {"B.log": field(UID_B)}, {"B.log": NOON - HOUR})
     assert page.texts(".note") == ["B.log was replaced by an older file of the same name."]
     assert page.texts("h1") == ["All 2 expected items are in some log; but the log of B is older "
-                                "than the one it replaced."]
+                                "than one that was here."]
     assert look(page) == "read" and not page.texts(".light.yes")
     # which may have become the way back of another file
     assert "Back" not in page.texts(".doubts")[0]
     (words,) = page.texts(".doubts b")
-    assert re.match(r"B.log of 18 Nov 2026, \d\d:\d6 is older than the file that it replaced, of "
-                    r"18 Nov 2026, \d\d:\d6\.$", words)
+    assert re.match(r"B.log of 18 Nov 2026, \d\d:\d6 is older than B.log of 18 Nov 2026, "
+                    r"\d\d:\d6, which isn't here any more\.$", words)
     page.press(".doubts button")
     page.until(".banner.yes h1", "All 2 expected items are here, and no others.")
     said = f"{words} It was answered here: 'The older one counts'."
@@ -991,8 +1000,8 @@ def test_an_older_file_that_replaces_a_newer_one_is_not_green(page, tmp_path):
     assert page.texts(".note") == [said] and look(page) == "yes"
 
 
-IS_OLDER = ["All 2 expected items are in some log; but the log of B is older than the one it "
-            "replaced."]
+IS_OLDER = ["All 2 expected items are in some log; but the log of B is older than one that was "
+            "here."]
 
 
 def test_it_stays_in_question_what_was_replaced_first(page):
@@ -1119,7 +1128,143 @@ def test_a_text_of_surveys_is_as_old_as_its_file(page, program, tmp_path):
 def test_two_files_of_one_minute_are_told_by_their_seconds(page):
     drop(page, COMPLETE, {name: NOON for name in COMPLETE})
     drop(page, {"B.log": field(UID_B, asks=2)}, {"B.log": NOON - 2000})
-    assert re.search(r":38 is older than .*:40\.$", page.texts(".doubts b")[0])
+    assert re.search(r":38 is older than .*:40, which isn't", page.texts(".doubts b")[0])
+
+
+def test_an_older_catalogue_is_asked_about(page, tmp_path):
+    """It may lack the item that is missing. So it is with the next one, and with one of another
+    name; that of another collection is no older one of this."""
+    drop(page, {**COMPLETE, "books.csv": books(*[(uid, ",A") for uid in ALL])},
+         {name: NOON for name in COMPLETE})
+    page.until("h1", "1 item missing")
+    for name, early in ("books.csv", 30 * DAY), ("b.csv", 20 * DAY):
+        drop(page, {name: BOTH}, {name: NOON - early})
+        assert page.texts("h1") == ["All 2 expected items are in some log; but "
+                                    f"{name} is older than one that was here."]
+        assert look(page) == "read" and not page.texts(".light.yes")
+    (words,) = page.texts(".doubts b")
+    assert re.match(r"b.csv of 29 Oct 2026, \d\d:\d6 is older than books.csv of 18 Nov 2026, "
+                    r"\d\d:\d6, which isn't here any more\.$", words)
+    page.press(".doubts button")
+    page.until(".banner.yes h1", "All 2 expected items are here, and no others.")
+    said = f"{words} It was answered here: 'The older one counts'."
+    assert page.texts(".note") == [said]
+    made = saved(page, tmp_path / "saved")
+    drop(page, {**COMPLETE, "south.csv": BOTH}, {"south.csv": NOON - 40 * DAY})
+    page.open(made)
+    assert page.texts(".note") == [said] and look(page) == "yes"
+    assert "b.csv of 29 Oct 2026, " in page.run("return document.body.textContent")
+
+
+def test_the_catalogue_of_another_collection_is_no_older_one(page):
+    drop(page, COMPLETE, {name: NOON for name in COMPLETE})
+    logs = {"A.log": field(UID_A), "B.log": field(UID_B)}
+    for name, is_asked in ("south.csv", False), ("books.csv", True):
+        drop(page, {name: BOTH, **logs}, {**{log: NOON for log in logs}, name: NOON - DAY})
+        assert (look(page) != "yes") == is_asked
+        page.press("#back")
+        page.until(".banner p", "books.csv")
+
+
+def test_an_older_table_of_places_is_asked_about(page):
+    files = {**COMPLETE, "p.csv": b"place,log\nA,A\nB,B\n"}
+    drop(page, files, {name: NOON for name in files})
+    drop(page, {"q.csv": files["p.csv"]}, {"q.csv": NOON - HOUR})
+    assert page.texts("h1")[0].endswith("but q.csv is older than one that was here.")
+
+
+def test_a_new_log_beside_an_older_text_of_surveys(page, program, tmp_path):
+    """Either may be left out, with its date. Without the newer one the older one is asked about."""
+    for name, uid in ("A.log", UID_A), ("B.log", UID_B):
+        (tmp_path / name).write_bytes(field(uid))
+    survey = program.run("survey", "A.log", "B.log", cwd=tmp_path).out
+    drop(page, {"books.csv": BOTH, "north.surveys": survey}, {"north.surveys": NOON - 30 * DAY})
+    until_green(page)
+    drop(page, {"A.log": field()}, {"A.log": NOON})
+    page.until(".error", "another log has that name")
+    first, second = page.texts("#told button")
+    assert re.match("Leave out north.surveys, the older file, of 19 Oct 2026, ", first)
+    assert re.match("Leave out A.log of 18 Nov 2026, ", second)
+    page.press("#told button", 1)
+    page.until("h1", "items are in some log; but the log of A is older than one that was here.")
+    assert look(page) == "read" and re.match("A.log of 19 Oct .* is older than A.log of 18 Nov",
+                                             page.texts(".doubts b")[0])
+    page.press("#back")
+    page.until(".error", "another log has that name")
+    page.press("#told button")
+    page.until("h1", "no log of B; nothing answered in A.")
+
+
+# How files may be called, of which one is another count of the other.
+COPIES = ["A (1)", "A (copy)", "A (another copy)", "A (3rd copy)", "A [2]", "A - Kopie",
+          "Copie de A", "Kopia av A", "A - C\u00f3pia (2)", "A copy 2"]
+
+
+@pytest.mark.parametrize("name", COPIES)
+def test_systems_call_copies_in_their_languages(page, name):
+    drop(page, {**COMPLETE, f"{name}.log": field()},
+         {**{name: NOON for name in COMPLETE}, f"{name}.log": NOON + HOUR})
+    assert f"ay whether A.log or {name}.log counts" in page.texts("h1")[0]
+    assert [re.sub(" of 18 .*", "", it) for it in page.texts(".doubts button")] == [
+        "Only A.log", f"Only {name}.log"]
+
+
+def test_a_later_count_by_the_name_of_a_copy_is_not_forgotten(page):
+    drop(page, COMPLETE, {name: NOON for name in COMPLETE})
+    drop(page, {"A (1).log": field()}, {"A (1).log": NOON + HOUR})
+    drop(page, COMPLETE, {name: NOON for name in COMPLETE})
+    assert page.texts("h1") == ["All 2 expected items are in some log; but the log of A is older "
+                                "than one that was here."]
+    assert "is older than A (1).log of 18 Nov 2026, " in page.texts(".doubts b")[0]
+
+
+@pytest.mark.parametrize("name", ["the example", "pasted text"])
+def test_a_file_may_be_called_like_what_has_no_name(page, name):
+    drop(page, {name: field(UID_A)})
+    drop(page, {"B.log": field(UID_B)})
+    page.until("#each", "2 logs")
+    drop(page, {"books.csv": books((UID_A, f",{name}"), (UID_B, ",B"))})
+    until_green(page)
+
+
+# A log by itself.
+
+def test_an_older_log_by_itself_is_asked_about(page, tmp_path):
+    """In the list of several, on paper and where it is saved, too."""
+    drop(page, {"A.log": log_of("I1 S UA")}, {"A.log": NOON})
+    page.until("h1", "No tag answered, but 1 is listed.")
+    drop(page, {"A.log": field(UID_A, listed=[UID_A])}, {"A.log": NOON - HOUR})
+    asked = ("The one listed tag is here, and no other. But A.log is older than one that was "
+             "here.")
+    page.until("h1", asked)
+    assert look(page) == "read" and not page.texts(".light.yes")
+    assert "Nothing to do" not in page.said()
+    page.media("print")
+    page.run(PRINTS)
+    assert "This sheet is no result: a question above is open." in page.said()
+    assert "Counted on" not in page.said()
+    page.media()
+    made = saved(page, tmp_path / "asked")
+    drop(page, {"B.log": field(UID_B, listed=[UID_B])}, {"B.log": NOON})
+    page.until("#each", "Complete: 1 of 2.")
+    assert page.texts("#logs button")[0].startswith(f"i\nA.log {asked}".replace("\n", ""))
+    page.press("#logs button")
+    (words,) = page.texts(".doubts b")
+    page.press(".doubts button")
+    page.until(".banner.yes h1", "The one listed tag is here, and no other.")
+    said = f"{words} It was answered here: 'The older one counts'."
+    assert said in page.texts(".note") and "Complete: 2 of 2." in page.texts("#each")[0]
+    page.media("print")
+    assert said in page.texts(".signed")[0]
+    page.media()
+    answered = saved(page, tmp_path / "answered")
+    page.press("#back")
+    page.until("h1", asked)
+    page.open(made)
+    assert look(page) == "read" and page.texts(".doubts b") == [words]
+    assert page.texts(".doubts button") == []
+    page.open(answered)
+    assert look(page) == "yes" and page.texts(".note") == [said]
 
 
 # Which logs count, and where.
@@ -1175,6 +1320,33 @@ def test_a_place_after_which_no_file_can_be_named(page, place):
     assert f"No file can be called {place}: write a table of places" in page.texts(".doubts")[0]
     drop(page, {"p.csv": f"place,log\nA,A\n{place},cart\n".encode()})
     assert look(page) == "yes"
+
+
+# Tables of places that name three logs of two places.
+NAMED = {"plain": b"place,log\nA,a1\nA,a2\nB,b.log\n",
+         "quoted": b'\xef\xbb\xbfnote;"log"; Place \r\n"x;""y"""; a1.log ;A\r\n\r\n;a2;"A"\r\n;b;B',
+         "in UTF-16": "\ufefflog\tplace\na1\tA\na2\tA\nb\tB\n".encode("utf-16")}
+OF_TWO = {"books.csv": BOTH, "a1.log": field(UID_A), "b.log": field(UID_B)}
+
+
+@pytest.mark.parametrize("how", NAMED)
+def test_a_log_that_a_table_of_places_names_is_not_here(page, file, tmp_path, how):
+    """Its place has another one, so the library counts that as counted."""
+    drop(page, {**OF_TWO, "places.csv": NAMED[how]})
+    assert page.texts("h1") == ["No log a2 of A, as places.csv names. Together the logs have all 2 "
+                                "expected items."]
+    assert look(page) == "read" and not page.texts(".light.yes")
+    words = "places.csv names a2 for A, which isn't here: what may be there isn't counted."
+    assert page.texts(".doubts b") == [words]
+    page.press(".doubts button")
+    until_green(page)
+    said = f"{words} It was answered here: 'It isn't of this count'."
+    assert page.texts(".note") == [said]
+    page.open(saved(page, tmp_path / "saved"))
+    assert page.texts(".note") == [said] and look(page) == "yes"
+    page.open(file)
+    drop(page, {**OF_TWO, "places.csv": NAMED[how], "a2.log": field(UID_C)})
+    assert "a2 of A" not in page.said()
 
 
 def test_with_a_table_of_places_no_name_is_that_of_a_place(page):
@@ -1456,12 +1628,12 @@ return [...document.querySelectorAll("td[data-head='may be in']")].map((it) => i
 """
 
 
-def saved(page, folder):
-    """The file that the page saves."""
+def saved(page, folder, then=""):
+    """The file that the page saves, though something is done at once then."""
     folder.mkdir(exist_ok=True)
     page.driver.execute_cdp_cmd("Browser.setDownloadBehavior",
                                 {"behavior": "allow", "downloadPath": str(folder)})
-    page.driver.find_element("id", "save").click()
+    page.run(f"document.getElementById('save').click();{then}")
     page.wait(lambda: [it for it in folder.glob("*.html") if it.stat().st_size])
     return next(folder.iterdir())
 
@@ -1486,6 +1658,34 @@ def test_what_is_saved_is_the_object_and_its_logs(page, program, tmp_path):
     assert page.texts("h1") == heading
     page.press(".logs summary")
     page.until(".logs h3", "Not finished")
+
+
+@pytest.mark.parametrize("wait", [0, 20, 60])
+def test_what_is_saved_is_what_was_shown(page, tmp_path, wait):
+    """With all its logs, whatever is shown before they are there."""
+    head, rest = field(UID_C, asks=2).split(b"\n", 1)
+    large = b"# a comment that takes time\n" * 40_000
+    drop(page, COMPLETE)
+    logs = {name: head + b"\n" + large + rest for name in ("A.log", "B.log")}
+    drop(page, {"other.csv": books((UID_C, ",A")), **logs})
+    heading = page.texts("h1")
+    back = f"setTimeout(() => document.getElementById('back').click(), {wait});"
+    made = saved(page, tmp_path / "saved", back)
+    told, _ = drawn_in(made.read_text())
+    assert [log["object"]["sha256"] for log in told["logs"]] == [
+        sha256(logs["A.log"]).hexdigest()] * 2
+    page.until(".banner.yes", "books.csv")
+    page.open(made)
+    assert page.texts("h1") == heading
+
+
+def test_a_log_is_saved_though_another_is_opened(page, tmp_path):
+    large = b"# a comment that takes time\n" * 60_000
+    drop(page, {"A.log": field(UID_A) + large})
+    opens = ("const data = new DataTransfer(); data.items.add(new File(['x'], 'B.log')); document"
+             ".dispatchEvent(new DragEvent('drop', { dataTransfer: data, bubbles: true }));")
+    made = saved(page, tmp_path / "saved", opens)
+    assert made.name == "A.log.html" and drawn_in(made.read_text())[0]["certain"]["count"] == 1
 
 
 def test_a_list_of_logs_is_saved_once(page, tmp_path):
