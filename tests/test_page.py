@@ -905,9 +905,9 @@ def test_items_that_are_not_on_their_shelves(page):
     assert "send it and this page to whoever maintains the reader." in page.said()
     page.press(".logs summary")
     page.until(".logs h3", "tag ..00A1 answered in line 3, but not in line 5,")
-    assert page.texts(ROWS) == ["Shelf one", "Emma\ntwo\nE0040100000000B2"]
+    assert page.texts(ROWS)[:2] == ["Shelf one", "Emma\ntwo\nE0040100000000B2"]
+    assert page.texts(ROWS)[2:4] == ["Shelf two", "Kim\nE0040100000000C3"]
     page.run("for (const it of document.querySelectorAll('#told > details')) it.open = true")
-    assert "Kim\nE0040100000000C3" in page.texts("#told > details .items tr")
     page.until("details p", "The logs of their shelves rule these out. Count again first")
 
 

@@ -1693,7 +1693,7 @@ def test_a_list_of_logs_is_saved_once(page, tmp_path):
     uids = [f"E004{number:012X}" for number in range(500)]
     drop(page, {"books.csv": "\n".join(["uid", *uids, ""]).encode(),
                 **{f"field {number}.log": log_of("I16 S S") for number in range(100)}})
-    unfold = "document.querySelector('#told > details:not(:has(.logs))').open = true"
+    unfold = "for (const it of document.querySelectorAll('#told > details')) it.open = true"
     page.run(unfold)
     page.until("td", "field 0.log")
     heading, may_be = page.texts("h1"), "\n".join(page.run(CELLS))
