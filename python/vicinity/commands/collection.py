@@ -17,7 +17,7 @@ from ..pages.document import document, page_object
 from ..logs.findings import JudgedLog
 from ..logs.headline import MAY_BE_HERE, READ_AGAIN, STILL_COMPLETE
 from ..logs.words import count, listing
-from .catalogue import columns_of, doubts
+from .catalogue import columns_of, doubts, unread
 from .summary import summary
 
 #: How a log begins, unless it is a text of surveys, which begins so; an empty file is a log.
@@ -132,7 +132,7 @@ def _page(files: Files, logs: set[str], found: Object) -> Iterator[str]:
                              if tag["kind"] == "absent"]
     tables = _tables(files)
     name = shown(os.path.basename(next(name for name, text in tables if columns_of(text))))
-    found.update(version=VERSION, file=name, files=[
+    found.update(version=VERSION, file=name, unread=unread(tables, found["logs"]), files=[
         {"file": name, "sha256": sha256(text).hexdigest()} for name, text in tables])
     lines = _written("reconcile", files).text.decode()
     answer = _less(found, found["wanted"]) if "wanted" in found else found["answer"]
