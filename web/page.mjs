@@ -164,7 +164,8 @@ shown.addEventListener("click", ({ target }) => {
   keep();
   now.isPressed = true;
   if (both) take(now.entries.map((it) => it === entry ? answered(it, both.split("\n")) : it), now.current);
-  else if (given) take(as && kept ? [counted(given, kept.split("\n"), as.split("\n"))] : without(given, all.filter((it, index) => outs ? outs.includes(index) : leave?.split("\n").includes(it.name)), kept, collection));
+  else if (given) take(as && kept ? [counted(given, kept.split("\n"), as.split("\n"))]
+    : without(given, all.filter((it, index) => outs ? outs.includes(index) : leave?.split("\n").includes(it.name)), kept, collection));
 });
 
 /**
@@ -193,9 +194,9 @@ function open(chosen, made) {
 const edit = (entry = now.entries[now.current]) => pane.put(entry && !isSpreadsheet(startOf(entry)) ? entry.text : new Uint8Array());
 
 saves.addEventListener("click", async () => {
-  const log = now.entries[now.current], fold = unfold(), text = shown.innerText, { title } = document;
+  const log = now.entries[now.current], { collection } = log, fold = unfold(), text = shown.innerText, { title } = document;
   fold();
-  const object = log.collection ? await withObjects(log.collection, openerOf(log)) : await whole(log).then((told) => told && withFile(told.object, log));
+  const object = collection ? await withObjects(collection, openerOf(log)) : await whole(log).then((told) => told && withFile(told.object, log));
   if (object) save(pageOf(new TextDecoder().decode(await unpacked(bytesOf(RECORD))), object, title, text), `${log.name}.html`);
   else status.textContent = NOT_SAVED;
 });

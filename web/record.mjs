@@ -15,9 +15,8 @@ if ("items" in object) {
     Object.assign(item, { certain_in: listOf(item.certain_in), possible_in: listOf(item.possible_in) });
   shown.replaceChildren(...collectionView(object, (number, of = object.logs[number].object) => of ? async () => tell(of) : null));
 } else {
-  const told = tell(object), pane = new Pane(/** @type {HTMLTextAreaElement} */ (at("text")), shown);
-  shown.replaceChildren(...view(told));
-  pane.put(new TextEncoder().encode(object.text));
+  shown.replaceChildren(...view(tell(object)));
+  new Pane(/** @type {HTMLTextAreaElement} */ (at("text")), shown).put(new TextEncoder().encode(object.text));
   at("beside").hidden = isSpreadsheet(object.text);
 }
 document.title = titled(object.file, shown.querySelector("h1")?.textContent ?? "");

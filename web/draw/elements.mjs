@@ -58,8 +58,7 @@ export function toLine(line, ...words) {
 }
 
 /** The arrows that lead to the next button, and to the one before; in a table the first two stay in a column. */
-const DOWN = /** @type {Record<string, number>} */ ({ ArrowDown: 1, ArrowUp: -1 });
-const ACROSS = /** @type {Record<string, number>} */ ({ ArrowRight: 1, ArrowLeft: -1 });
+const [DOWN, ACROSS] = /** @type {Record<string, number>[]} */ ([{ ArrowDown: 1, ArrowUp: -1 }, { ArrowRight: 1, ArrowLeft: -1 }]);
 
 /**
  * A part of whose buttons one is a stop for the keyboard: arrows lead to the others.

@@ -4,7 +4,7 @@ import { KIND } from "../judge/objects.mjs";
 import { askedOf, copies, interchanged, leaving, ofAPlace, ofOtherDays, older, same, shared } from "./copies.mjs";
 import { SENTENCES } from "./sentences.mjs";
 import { firstOf, MOST_LISTED, nameOf } from "./shelves.mjs";
-import { count, listing, printable } from "./words.mjs";
+import { count, dated, listing, printable } from "./words.mjs";
 
 /** @typedef {import("../judge/objects.mjs").CollectionObject} CollectionObject */
 /** @typedef {import("./copies.mjs").Doubt} Doubt */
@@ -71,7 +71,10 @@ function ofPlaces({ without_log, items, logs, files, file }, asked, known) {
   const unnamed = without_log.filter((place) => stemOf(`${place}.log`) !== place), name = unnamed.length ? `No file can be called ` +
     `${firstOf(unnamed.map(printable))}: write a table of places, with the columns place and log. ` : NAME_IT + (items.some(({ place, uid }) => uid && place === null) ? ANY : "");
   const how = its ? `${printable(its.file)} doesn't name ${they}: correct its column log. ` : `The catalogue has no place of ${called}. ${name}`;
-  const [cure, more] = isNone ? [NO_PLACE, {}] : table ? [`${named} ${NONE_NAMED}`, leaving([{ name: table.file }])] : [how + OTHERS, leaving(lost)];
+  const newest = Math.max(...logs.map((log) => log.left_over ? 0 : log.changed ?? 0));
+  const late = lost.filter(({ changed = 0 }) => newest && changed > newest && dated(changed) !== dated(newest)), last = firstOf(late.map((it) => nameOf(it.name)));
+  const isNew = late.length ? `${last}, of ${dated(late[0].changed)}, is newer than the others: if it is a new count, open it under the name of its place. ` : "";
+  const [cure, more] = isNone ? [NO_PLACE, {}] : table ? [`${named} ${NONE_NAMED}`, leaving([{ name: table.file }])] : [how + isNew + OTHERS, leaving(lost)];
   const noPlace = { short: `${firstOf(names)} ${lost.length === 1 ? "is" : "are"} of no place`, isFirst: true, cure, ...more,
     words: `${count(lost.length, "log")} of no place: ${firstOf(names, "and", MOST_LISTED)}.` };
   return [...places.length && logs.length ? [noLog] : [], ...lost.length ? [noPlace] : []];
