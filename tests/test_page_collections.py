@@ -314,6 +314,65 @@ def test_a_column_of_nearly_that_name_asks_for_no_places(page):
     assert look(page) == "read" and "But where each belongs wasn't asked." in page.texts("h1")[0]
 
 
+@pytest.mark.parametrize(("head", "rows", "meant"), [
+    ("uid,title,Shelf", (",A", ",B"), "'Shelf'"), ("uid,title,Regal", (",A", ",B"), "'Regal'"),
+    ("uid,title,Room,Shelf mark", (",1,a", ",1,b"), "'Room' or 'Shelf mark'"),
+    ("uid,title,Regal", (",A", ",A"), None), ("uid,title,author", (",x", ",y"), None)])
+def test_a_column_that_may_say_where_items_belong_is_named(page, head, rows, meant):
+    """It is called so, or it has the names of all logs. Whether it is that of places isn't
+    guessed."""
+    table = books(*zip((UID_A, UID_B), rows), head=head)
+    drop(page, {**COMPLETE, "books.csv": table})
+    (doubt,) = page.texts(".doubts li")
+    assert "no column 'place'" in doubt and look(page) == "read"
+    said = f"If column {meant} says where each item belongs, rename it to place."
+    assert doubt.endswith(said if meant else "add a column 'place', and name each log after its "
+                          "place.")
+
+
+def test_a_catalogue_that_waits_names_the_column_of_shelves(page):
+    """So does one beside the log of one field, unless all is there."""
+    shelves = books((UID_A, ",A"), (UID_B, ",B"), head="uid,title,Shelf")
+    drop(page, {"books.csv": shelves})
+    assert "If column 'Shelf' says" in page.texts(".doubts")[0]
+    drop(page, {"A.log": field(UID_A)})
+    assert page.texts("h1") == ["1 item missing."]
+    assert "If column 'Shelf' says" in page.texts(".doubts")[0]
+    drop(page, {"A.log": field(UID_A, UID_B, asks=2)})
+    assert look(page) == "yes" and not page.texts(".doubts")
+    drop(page, {"books.csv": BOTH})
+    assert "rename" not in page.said()
+
+
+def test_items_of_any_place_and_a_log_of_no_place(page):
+    """A table of places says of which field such a log is."""
+    files = {"books.csv": books((UID_A, ",A"), (UID_B, ",any")), "A.log": field(UID_A),
+             "trolley.log": field(UID_B, asks=2)}
+    drop(page, files)
+    (doubt,) = page.texts(".doubts li")
+    assert "trolley.log" in doubt and look(page) == "no"
+    assert "If what is there has no fixed place ('any'), write a table of places, with the" in doubt
+    drop(page, {"places.csv": b"place,log\nA,A.log\ntrolley,trolley.log\n"})
+    assert look(page) == "yes"
+    drop(page, {"books.csv": BOTH})
+    assert "fixed place" not in page.said()
+
+
+def test_paper_has_no_long_list_of_what_is_not_counted(page):
+    """It says how many are of which place, and that the page has the list."""
+    rows = [f"{0xE004010000000000 + at:016X},T{at},{'AB'[at > 60]}" for at in range(161)]
+    drop(page, {"books.csv": "\n".join(["uid,title,place", *rows, ""]).encode(),
+                "C.log": field(), "more.csv": b"place,log\nC,C.log\n"})
+    page.media("print")
+    page.run(PRINTS)
+    words = "Not counted (161): A\u00a0(61) and B\u00a0(100). The whole list is in the page"
+    assert [it for it in page.texts(".paper") if it.startswith(words)]
+    assert "T160" not in page.said() and page.sheets() == 1
+    page.media()
+    page.press("summary")
+    page.until("td, th", "T160")
+
+
 @pytest.mark.parametrize(("names", "asked"), [
     (("C", "C (1)"), True), (("C (1)", "C (2)"), True), (("C", "C - Copy"), True),
     (("C", "Copy of C"), True), (("C", "C copy 2"), True), (("C", "C1"), False),
@@ -744,7 +803,7 @@ def test_one_goes_back_after_a_paste(page):
      "Line 1 is: Tag ID;title"),
     ("books.xlsx", b"PK\x03\x04", "books.xlsx is a spreadsheet", "save it as CSV."),
     ("books.xls", b"\xD0\xCF\x11\xE0\xA1\xB1\x1A\xE1", "books.xls is a spreadsheet", "as CSV"),
-    ("books.csv", b"%PDF-1.7\n", "books.csv, line 1: this is a PDF",
+    ("books.csv", b"%PDF-1.7\n", "books.csv, line 1: this is no table, but a PDF",
      "Open the table itself, saved as CSV.")])
 def test_what_is_no_catalogue(page, name, text, words, cure):
     """It is said what is wrong, and what to do; the logs stay for the next catalogue."""
@@ -859,13 +918,32 @@ def test_a_log_in_utf_16_is_refused(page, program, tmp_path, coding):
     said = program.run("json-collection", "--", *files, cwd=tmp_path)
     assert said.out == b"refused at line 1 of A.log: Utf8\n"
     drop(page, files)
-    assert "A.log, line 1: the line isn't UTF-8" in page.texts(".error")[0]
-    assert look(page) == "refused"
-    assert "The file seems to be UTF-16: save it as ASCII or UTF-8." in page.said()
+    assert "A.log, line 1: it seems to be UTF-16)." in page.texts(".error")[0]
+    assert look(page) == "refused" and page.texts(".steps li")[0] == "Save it as ASCII or UTF-8."
     page.press("#close")
     drop(page, {"A.log": files["A.log"]})
-    page.until("li", "The file seems to be UTF-16")
-    assert "Count again" not in page.texts(".steps")[0]
+    page.until("h1", "This text isn't a log. Line 1: it seems to be UTF-16.")
+    assert page.texts(".steps li") == ["Save it as ASCII or UTF-8."]
+
+
+@pytest.mark.parametrize("coding", ["utf-16-le", "utf-16-be"])
+def test_a_table_in_utf_16_that_is_broken_is_called_that(page, coding):
+    """Cut within a sign, it is refused; with half a sign at its head, by which nobody sees a column
+    uid, it is left out of what is here. The page doesn't take it for a table of no columns."""
+    mark, text = "\ufeff".encode(coding), BOTH.decode().encode(coding)
+    broken = "it seems to be UTF-16, but cut off, changed, or without its mark"
+    drop(page, {**COMPLETE, "books.csv": mark + text[:-1]})
+    assert page.texts(".error") == [f"books.csv, line 1: {broken}."]
+    assert "Copy the file again, or save the table as 'CSV UTF-8'." in page.said()
+    drop(page, {"books.csv": BOTH})
+    drop(page, {"more.csv": mark + "\ud800".encode(coding, "surrogatepass") + text})
+    assert page.texts(".note")[-1] == f"more.csv was left out: {broken}."
+
+
+def test_a_table_whose_lines_end_with_cr_is_told_so(page):
+    drop(page, {**COMPLETE, "books.csv": BOTH.replace(b"\n", b"\r")})
+    assert page.texts(".error") == ["books.csv, line 1: its lines end with CR alone."]
+    assert page.texts(".steps li")[0].startswith("Save it with LF, or CR LF, at the end of each")
 
 
 def test_a_text_of_surveys_stands_in_place_of_its_logs(page, program, tmp_path):
@@ -934,6 +1012,40 @@ def test_an_answer_is_about_two_files(page):
     page.until("h1", "1 item missing")
     drop(page, {"B.log": field(UID_B)}, {"B.log": NOON - DAY - HOUR})
     assert page.texts("h1") == IS_OLDER
+
+
+def test_what_is_answered_of_one_log_is_kept_and_says_nothing_of_others(page):
+    """An older B counts. A new A joins, which leaves that; an older A is asked about by itself."""
+    drop(page, {**COMPLETE, "B.log": field()}, {name: NOON for name in COMPLETE})
+    drop(page, {"B.log": field(UID_B)}, {"B.log": NOON - HOUR})
+    page.press(".doubts button")
+    page.until(".banner.yes h1", "All 2 expected items are here, and no others.")
+    (said,) = page.texts(".note")
+    drop(page, {"A.log": field(UID_A, asks=2)}, {"A.log": NOON + HOUR})
+    assert look(page) == "yes" and said in page.texts(".note")
+    drop(page, {"A.log": field(UID_A)}, {"A.log": NOON})
+    assert look(page) == "read" and said in page.texts(".note")
+    assert page.texts("h1") == [IS_OLDER[0].replace("of B", "of A")]
+    page.press(".doubts button")
+    page.until(".banner.yes h1", "All 2 expected items are here, and no others.")
+    assert page.texts(".note")[0].startswith("B.log and A.log are older than the files that they ")
+    # nor of another older file of the same name
+    drop(page, {"B.log": field(UID_B, asks=2)}, {"B.log": NOON - 2 * HOUR})
+    assert page.texts("h1") == IS_OLDER and look(page) == "read"
+
+
+def test_of_several_copies_each_is_asked_about(page):
+    """That both count is said of the one, and stays; of the other it is still asked."""
+    drop(page, {"books.csv": books((UID_A, ""), (UID_B, ""), head="uid,title"),
+                "A.log": field(UID_A), "A (1).log": field(UID_A, asks=2),
+                "B.log": field(UID_B), "B (1).log": field(UID_B, asks=2)})
+    number = page.texts(".doubts button").index("Both: they are of different fields")
+    page.press(".doubts button", number)
+    page.until(".note", "It was answered here: 'Both: they are of different fields'.")
+    (said,) = page.texts(".note")
+    assert look(page) != "yes" and re.search("[Ss]ay whether ", page.texts("h1")[0])
+    drop(page, {"C.log": field(UID_C)})
+    assert said in page.texts(".note") and re.search("[Ss]ay whether ", page.texts("h1")[0])
 
 
 def test_logs_before_their_catalogue_are_asked_about_too(page):
@@ -1219,6 +1331,29 @@ def test_many_logs_that_are_called_otherwise_than_their_places(page, twice):
     assert "S5 (scan_S5.log): 1 tag" in drawn
 
 
+@pytest.mark.parametrize("doubt", ["a day older", "hidden", "of a new name"])
+def test_one_button_for_many_logs_makes_nothing_green_that_is_doubtful(page, doubt):
+    """It says whose logs they are, and nothing of when they were written, or what they hid."""
+    uids = {f"S{number}": 0xE004010000000000 + number for number in range(6)}
+    table = "\n".join(["uid,place", *(f"{uid:016X},{place}" for place, uid in uids.items()), ""])
+    files = {f"scan_{place}.log": field(uid) for place, uid in uids.items()}
+    if doubt == "hidden":
+        uid = uids["S3"]
+        files["scan_S3.log"] = text_of(["vicinity-log 3", biglog.ask((0, 0)), biglog.reply(uid)])
+    if doubt == "of a new name":
+        files["other.log"] = field(UID_A)
+    files["books.csv"] = table.encode()
+    late = DAY if doubt == "a day older" else 0
+    drop(page, files, {name: NOON - late * (name == "scan_S3.log") for name in files})
+    page.press(".doubts button")
+    page.until(".note", "6 logs count by other names than their own")
+    assert look(page) in ("read", "no")
+    words = {"a day older": "the log of S3 is more than 12 hours older",
+             "hidden": "others may be, if stronger replies hid them",
+             "of a new name": "other.log is of no place"}[doubt]
+    assert words in page.texts("h1")[0]
+
+
 def test_a_table_of_places_that_names_no_log(page):
     """Without it each log is of the place after which it is named."""
     drop(page, {**COMPLETE, "places.csv": b"place,log\nA,shelf-a\nB,shelf-b\n"})
@@ -1358,11 +1493,16 @@ def test_a_list_of_logs_is_saved_once(page, tmp_path):
     uids = [f"E004{number:012X}" for number in range(500)]
     drop(page, {"books.csv": "\n".join(["uid", *uids, ""]).encode(),
                 **{f"field {number}.log": log_of("I16 S S") for number in range(100)}})
+    unfold = "for (const it of document.querySelectorAll('#told > details')) it.open = true"
+    page.run(unfold)
+    page.until("td", "field 0.log")
     heading, may_be = page.texts("h1"), "\n".join(page.run(CELLS))
     made = saved(page, tmp_path / "saved")
     told, _ = drawn_in(made.read_text())
     assert told["lists"] == [list(range(100))] and len(json.dumps(told["items"])) < 200 * len(uids)
     page.open(made)
+    page.run(unfold)
+    page.until("td", "field 0.log")
     assert page.texts("h1") == heading and "\n".join(page.run(CELLS)) == may_be
     assert may_be.startswith("field 0.log, field 1.log, field 2.log or 97 more")
 

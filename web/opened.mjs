@@ -1,6 +1,7 @@
 /** What is opened: files as logs, each with its text, or together a collection, which has none of its own. */
-import { hasUids, isPlaces, isSpreadsheet, isStrange, kindOf, startOf, stemOf, surveyedIn } from "./judge/files.mjs";
+import { hasUids, isBroken, isPlaces, isSpreadsheet, isStrange, kindOf, startOf, stemOf, surveyedIn } from "./judge/files.mjs";
 import { grouped } from "./judge/groups.mjs";
+import { SENTENCES } from "./say/sentences.mjs";
 import { firstOf, MOST_LISTED } from "./say/shelves.mjs";
 import { count, listing, printable } from "./say/words.mjs";
 import { STOPPED } from "./work.mjs";
@@ -24,7 +25,7 @@ const NO_FILE = "it can't be read; open it again, or the files in it if it is a 
 const UNFINISHED = /\.(crdownload|opdownload|download|part|partial|filepart|tmp)$/i;
 const NOT_WHOLE = "by its name it is still being downloaded or written: wait for that, or copy it again";
 /** What no name of a log has. */
-const CONTROL = /[\0-\x1F\x7F]/g, NO_TEXTS = "Leave out what doesn't belong here; save a spreadsheet as CSV; unpack a ZIP file.";
+const CONTROL = /[\0-\x1F\x7F]/g, NO_TEXTS = "Leave out what doesn't belong here; save a spreadsheet as CSV; unpack what is packed (ZIP, gz).";
 /** Of how many logs it is said each that they count by other names. */
 const MOST_SAID_EACH = 4, NO_CATALOGUE = "Now open the catalogue: a table (CSV) with a column uid.";
 /** What is pasted has no name by which it could be of a place. The example leaves with the first file that is opened, and joins none. */
@@ -123,8 +124,8 @@ export function gathered(taken, entries) {
  * Why a file belongs to no collection; empty if it may.
  * @param {Entry} entry
  */
-const strangeness = (entry) => kindOf(entry) === "other" ? NO_LOG : !isCatalogue(entry) || hasUids(entry) ? "" : isSpreadsheet(startOf(entry))
-  ? "save a spreadsheet as CSV" : "a catalogue has a column 'uid'";
+const strangeness = (entry) => kindOf(entry) !== "other" && (!isCatalogue(entry) || hasUids(entry)) ? "" : isBroken(entry) ? SENTENCES.tables.utf16[0]
+  : kindOf(entry) === "other" ? NO_LOG : isSpreadsheet(startOf(entry)) ? "save a spreadsheet as CSV" : "a catalogue has a column 'uid'";
 
 /**
  * What became of files.

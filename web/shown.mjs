@@ -87,7 +87,7 @@ function leavingOut({ tables, logs }, files) {
 }
 
 /**
- * Shows several logs with what each says. Of all together nothing is said but how many are complete, once all are judged.
+ * Shows several logs with what each says. Of all together nothing is said but how many are complete, once all are judged, if any has a list.
  * @param {Entry[]} entries
  * @param {number} current which is shown, less than 0 if none is
  */
@@ -100,7 +100,7 @@ export function overview(entries, current) {
   list.querySelectorAll("button").forEach((button, index) => label(button, entries[index], index === current));
   const tolds = entries.flatMap(({ name, told }) => told ? { name, told } : []), foreign = tolds.filter(({ told }) => isForeign(told)).length;
   const whole = tolds.filter(({ told }) => told.object.kind === KIND.COMPLETE).length, logs = many - foreign;
-  const how = entries.some(isUnanswered) || !logs ? "" : ` Complete: ${whole.toLocaleString("en")} of ${logs.toLocaleString("en")}.`;
+  const how = entries.some(isUnanswered) || !whole && !tolds.some(({ told }) => told.counts.listed) ? "" : ` Complete: ${whole.toLocaleString("en")} of ${logs.toLocaleString("en")}.`;
   const others = foreign ? ` ${count(foreign, "file isn't a log", "files aren't logs")}.` : "";
   const words = `${count(logs, "log")}${logs > 1 ? ", each with its own answer" : ""}.${how}${others}`;
   const notes = current < 0 ? [...new Set(entries.flatMap(({ note }) => note || []))].map((it) => el("p", { class: "note" }, printable(it))) : [];

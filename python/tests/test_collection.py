@@ -13,6 +13,7 @@ from cases import (A, ALL, B, COLLECTION, HEARD_A, HEARD_B, LIST_A, NOTHING, SHE
 from helpers import collection_rows
 from helpers.records import drawn_in
 from vicinity import Mask
+from vicinity._sentences import SENTENCES
 from vicinity.commands import collection
 
 FORMS = ([], ["--csv"], ["--json"], ["--page"])
@@ -319,8 +320,9 @@ class Doubts(Command):
                 said = self.doubts_of(f"{head.format(column)}\n{separator.join(row)}\n", ["--csv"])
                 self.assertEqual(said, (
                     "vicinity: K: The catalogue has no column 'place', so an item on a wrong shelf "
-                    "isn't noticed, nor a shelf that wasn't counted. Column "
-                    f"{number} is called {json.dumps(column)}, which isn't that name.\n"))
+                    "isn't noticed, nor a shelf that wasn't counted. If column "
+                    f"{number}, {json.dumps(column)}, says where each item belongs, rename it to "
+                    "place.\n"))
 
     def test_no_log(self):
         """Usually a pattern that found nothing. A survey is one, and so is an empty file."""
@@ -386,7 +388,7 @@ class Sure(Command):
     def test_a_terminal_is_told(self):
         told, said = on_a_terminal("collection", self.expected, *self.logs, streams=["stderr"])
         self.assertEqual(said, b"complete 2\n")
-        self.assertEqual(told.decode().replace("\r\n", "\n"), f"""{collection.HEARD}
+        self.assertEqual(told.decode().replace("\r\n", "\n"), f"""{SENTENCES["answers"]["holds"]}
 Any other tag would have had to be missed in 2 slots or more, in the field of {self.logs[0]}.
 If replies were hidden: still complete
 If the reader went deaf: others may be here, in {self.logs[0]} and {self.logs[1]}

@@ -148,6 +148,28 @@ class Page(Command):
             wanted = BROKEN if wanted.startswith(BROKEN) else wanted
             self.assertEqual(headline(JudgedLog(log_of(names)))[:len(wanted)], wanted, names)
 
+    def test_foreign_files(self):
+        """Each is called what it is, with what to do, and not how a header is written."""
+        for given, words in self.rows_of("foreign", 20):
+            said = " ".join(within("show", self.write("a", log_of(given)))[0].decode().split())
+            if words.startswith("This file isn't a log"):
+                self.assertTrue(said.startswith(words), said)
+            if said.startswith("This file isn't a log"):
+                self.assertNotIn("Write the header", said)
+                self.assertNotIn("vicinity page", said)
+            elif "vicinity-log" in given:
+                self.assertIn("a log. Line 1: ", said)
+
+    def test_what_to_do_where_a_list_is_complete(self):
+        """As at the shelf of the page: there is nothing to do only where it is green."""
+        for names, wanted in self.rows_of("sure", 12):
+            text = log_of(names)
+            said = " ".join(within("show", self.write("a", text))[0].decode().split())
+            is_sure = b"\nU " in text and wanted.endswith("still complete / still complete")
+            self.assertEqual("Nothing to do. " in said, is_sure, names)
+            steps = "Nothing to do", "Spread out items", "If items should be here"
+            self.assertIs(vicinity.check(text).is_complete, any(it in said for it in steps))
+
     def test_lights(self):
         """None of a text that is refused."""
         for names, wanted in self.rows_of("lights", 10):

@@ -2,14 +2,14 @@
 import json
 import re
 from pathlib import Path
-from typing import Any, Mapping, NamedTuple
+from typing import Any, Mapping, NamedTuple, Sequence
 
 HERE = Path(__file__).resolve().parent
 #: The file as a package has it, and in the repository: a module of the page,
 #: which is JSON behind these words.
 MADE, SOURCE, BEGINS = HERE / "sentences.mjs", HERE / "../../web/say/sentences.mjs", "SENTENCES = "
 _TEXT = (MADE if MADE.exists() else SOURCE).read_text("utf-8")
-SENTENCES: Mapping[str, Mapping[str, Any]] = json.loads(
+SENTENCES: Mapping[str, Any] = json.loads(
     _TEXT.partition(BEGINS)[2].rstrip().rstrip(";"))
 
 
@@ -27,6 +27,14 @@ def advice(fault: str, of: str = "faults") -> Advice:
     wrong, *fix = SENTENCES[of].get(fault) or faults.get(fault) or faults[""]
     return Advice(wrong, re.sub(r"\{(\w+)\}", lambda part: str(SENTENCES["parts"][part[1]]),
                                 " ".join(fix)))
+
+
+def foreign(line: str) -> Sequence[str]:
+    """What a file is that begins with a line nobody meant as one of a log, and what to do;
+    empty of others."""
+    if re.search(SENTENCES["aLog"][0], re.sub("[\0\ufeff\ufffd]", "", line), re.I):
+        return ()
+    return next(said for it, *said in SENTENCES["files"].values() if re.search(it, line, re.I))
 
 
 def numbered(name: str, number: int, of: str = "answers") -> str:

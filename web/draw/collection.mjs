@@ -1,12 +1,14 @@
 /** Draws a collection: what isn't sure of its logs, what to count again, what to do at each shelf, what isn't known yet, and each log. */
 import { maskOf } from "../judge/frames.mjs";
+import { grouped } from "../judge/groups.mjs";
 import { KIND } from "../judge/objects.mjs";
-import { IF_HEARD, NOTHING_TO_DO, ONE_MORE } from "../say/say.mjs";
-import { inOrder, MOST_LISTED, nameOf } from "../say/shelves.mjs";
+import { IF_HEARD } from "../say/say.mjs";
+import { SENTENCES } from "../say/sentences.mjs";
+import { firstOf, inOrder, MOST_LISTED, nameOf } from "../say/shelves.mjs";
 import { conditionsOf, sayAll, summaryOf } from "../say/summary.mjs";
 import { granted, TO_KNOW } from "../say/sure.mjs";
 import { count, dated, endings, listing, printable } from "../say/words.mjs";
-import { bullets, button, drawnLater, el, folded, lowered, oneStop, rest } from "./elements.mjs";
+import { bullets, button, drawnLater, el, folded, holds, lowered, oneStop, rest } from "./elements.mjs";
 import { shelved } from "./items.mjs";
 import { Pane } from "./pane.mjs";
 import { banner, signed, view } from "./view.mjs";
@@ -15,6 +17,8 @@ import { banner, signed, view } from "./view.mjs";
 /** @typedef {import("../judge/objects.mjs").CollectionObject} CollectionObject */
 /** @typedef {import("../judge/objects.mjs").Item} Item */
 /** @typedef {import("../judge/objects.mjs").OneLog} OneLog */
+/** @typedef {import("../say/shelves.mjs").Shelves} Shelves */
+/** @typedef {import("./items.mjs").Cell} Cell */
 /** @typedef {(at: number) => null | (() => Promise<Told | undefined>)} Opener what is told of a log, by its number, if it can be had */
 
 /** How many logs are drawn, how many items are seen unfolded, how many stand on paper that are here, and how many masks are named. */
@@ -28,7 +32,7 @@ const IS_BACK = "What is back was away, as the catalogue says: record that it is
 const ELSEWHERE = "The logs of their shelves rule these out. Count again first, as said above; then look there: a tag may be covered.";
 const NO_TAG = "These rows of the catalogue have no UID, so nothing is known of them: look for them by eye.";
 const UNKNOWN_YET = "Whether these are here isn't known until the logs above are counted again.";
-const NOT_COUNTED = "Nothing is known of these, as their places have no log.";
+const NOT_COUNTED = "Nothing is known of these, as their places have no log.", IN_FULL = "The whole list is in the page, not on paper.";
 const WAITS = "Open or drop the logs, in any order. A catalogue says what should be here: a list of what was read is none, it would always agree.";
 const AGAIN_BROKEN = " If a log contradicts itself again, send it and this page to whoever maintains the reader.";
 const STRAYS = "Of these it isn't known where they were heard: their logs are of no place. Where to find them is known once the places are.";
@@ -45,21 +49,16 @@ const PROVED = "What is said of each item and log is what the library writes of 
  */
 export function collectionView(object, opener = () => null, canLeave) {
   const { shelves, doubts, answered, of, elsewhere, others, strays, open, hiding, deaf, isComplete } = summaryOf(object), said = sayAll(object);
-  const { counts, logs } = object, home = (/** @type {Item} */ { place }) => printable(place ?? ""), file = printable(object.file);
+  const { counts, logs } = object, here = of("in place", "there"), home = (/** @type {Item} */ { place }) => printable(place ?? ""), file = printable(object.file);
   const notes = [...object.left ?? [], ...answered].map((it) => el("p", { class: "note" }, it));
   if (!logs.length) return [...notes, banner(said, file), ...doubted(object, canLeave), el("p", {}, WAITS)];
   const mayBe = { "may be in": (/** @type {Item} */ item) => shelves.mayBe(item) }, at = (/** @type {Item} */ item) => shelves.at(item);
-  // of a shelf of which nothing is known to be in place no items are named
-  const known = new Set(["", ...of("in place").map(home)]), some = others.filter((item) => known.has(home(item)));
-  const none = others.filter((item) => !known.has(home(item))), places = listing([...new Set(none.map(home))].sort(inOrder));
-  const which = none.length ? ` They are ${count(none.length, "item")} of ${places}, not named here${some.length ? ", and these:" : "."}` : "";
   const todo = of("missing", "misplaced", "unexpected", "returned").filter((item) => !shelves.isStray(item));
-  const isKnown = !todo.length && !strays.length && !counts["not provable"] && !counts["not counted"];
-  const rests = conditionsOf(object).map((it) => el("p", {}, it)), conditions = rests.length ? [el("section", { class: "holds" }, rests)] : [];
+  const isKnown = !todo.length && !strays.length && !counts["not provable"] && !counts["not counted"], conditions = holds(conditionsOf(object));
   const done = [...logs.keys()].filter((it) => !open.includes(it)), isBroken = open.some((it) => logs[it].field.startsWith(KIND.IMPOSSIBLE));
-  const again = `Count ${open.length === 1 ? "it" : "each"} again, to the end, in a new log.`, step = deaf.length ? IF_HEARD : NOTHING_TO_DO;
+  const again = `Count ${open.length === 1 ? "it" : "each"} again, to the end, in a new log.`, step = deaf.length ? [IF_HEARD] : SENTENCES.steps.nothing;
   const byEye = counts["no tag"] ? [`Look for ${count(counts["no tag"], "item")} by eye, as said below.`] : [];
-  const steps = [...byEye, ...object.wanted ? [ASK_MORE] : hiding.length ? ONE_MORE : byEye.length ? [] : [step]].map((it) => el("li", {}, it));
+  const steps = [...byEye, ...object.wanted ? [ASK_MORE] : hiding.length ? SENTENCES.steps.oneMore : byEye.length ? [] : step].map((it) => el("li", {}, it));
   const look = (counts.missing ? `Missing items ${logs.length > 1 ? "answered on no shelf" : "didn't answer"}. ${LOOK_FOR}` : "") +
     (counts.unexpected ? NOT_EXPECTED : "") + (counts.returned ? IS_BACK : "");
   const drawn = (/** @type {string} */ title, /** @type {string} */ words, /** @type {number[]} */ list, isFirst = false) =>
@@ -67,13 +66,14 @@ export function collectionView(object, opener = () => null, canLeave) {
   return [...notes, banner(said, `${file} · ${count(logs.length, "log")}${spanOf(logs)}`), ...doubted(object, canLeave),
     ...(isComplete || object.wanted) && !doubts.length ? [el("h2", {}, "At the shelves"), el("ul", { class: "steps" }, steps)] : [],
     ...isKnown ? conditions : [], ...drawn("Count again", again + (isBroken ? AGAIN_BROKEN : ""), open, true),
-    ...part("At the shelves", todo, doubts.every((it) => !it.numbers), look, shelved(todo, shelves, at, {}, (item) => shelves.toDo(item))),
-    ...part("Heard in logs of no place", strays, false, STRAYS, shelved(strays, shelves, at, { "belongs to": home })),
-    ...part("Not heard on their shelves", elsewhere, true, ELSEWHERE, shelved(elsewhere, shelves, home, mayBe)),
-    ...part("Without a tag", of("no tag"), true, NO_TAG, shelved(of("no tag"), shelves, home, {}, () => "look for")),
-    ...part("Not counted", of("not counted"), counts["not counted"] <= MOST_LISTED, NOT_COUNTED, shelved(of("not counted"), shelves, home)),
-    ...part("Not known yet", others, others.length <= MOST_LISTED, UNKNOWN_YET + which, shelved(some, shelves, home, some.every(home) ? {} : mayBe)),
-    ...isKnown ? [] : conditions,...drawn("Ask all once more", ONCE_AGAIN, hiding), ...listOf(object),
+    ...part("At the shelves", todo, doubts.every((it) => !it.numbers), look, [shelves, at, {}, (item) => shelves.toDo(item)]),
+    ...part("Heard in logs of no place", strays, false, STRAYS, [shelves, at, { "belongs to": home }], false),
+    ...part("Not heard on their shelves", elsewhere, true, ELSEWHERE, [shelves, home, mayBe]),
+    ...part("Without a tag", of("no tag"), true, NO_TAG, [shelves, home, {}, () => "look for"]),
+    ...part("Not counted", of("not counted"), counts["not counted"] <= MOST_LISTED, NOT_COUNTED, [shelves, home], false),
+    ...part("Not known yet", others, others.length <= MOST_LISTED, UNKNOWN_YET, [shelves, home, others.every(home) ? {} : mayBe], false),
+    ...isKnown ? [] : conditions,...drawn("Ask all once more", ONCE_AGAIN, hiding),
+    ...part("Here", here, false, "", [shelves, home], false, `Here (${count(here.length, "item")})`),
     ...drawn("Searched to the end", "", done.filter((it) => !hiding.includes(it))), ...grantedOfAll(object), recordOfAll(object)];
 }
 
@@ -101,28 +101,22 @@ function doubted(object, canLeave) {
 }
 
 /**
- * A part about items, with their number.
+ * A part about items, with their number. Of many with which there is nothing to do, paper has only how many belong where.
  * @param {string} title
  * @param {Item[]} list
  * @param {boolean} open
  * @param {string} words
- * @param {Element[]} drawn a table first
+ * @param {[Shelves, Cell, Record<string, Cell>?, Cell?]} how its table is drawn
+ * @param {boolean} [isTodo]
+ * @param {string} [head]
  */
-function part(title, list, open, words, drawn) {
-  drawn[0]?.prepend(el("caption", {}, title));
-  return list.length ? [folded(`${title} (${list.length.toLocaleString("en")})`, open && list.length <= FEW_ITEMS,
-    ...words ? [el("p", {}, words)] : [], ...drawn)] : [];
-}
-
-/**
- * The items that are here, by their shelves; on paper they stand if they are few.
- * @param {CollectionObject} object
- */
-function listOf(object) {
-  const { of, shelves } = summaryOf(object), list = of("in place", "there");
-  const it = drawnLater(`Here (${count(list.length, "item")})`, false, () => shelved(list, shelves, ({ place }) => printable(place ?? "")));
-  it.classList.toggle("aside", list.length > MOST_PRINTED);
-  return list.length ? [it] : [];
+function part(title, list, open, words, how, isTodo = true, head = `${title} (${list.length.toLocaleString("en")})`) {
+  const isCut = !isTodo && list.length > MOST_PRINTED;
+  const it = drawnLater(head, open && list.length <= FEW_ITEMS, () => [...words ? [el("p", {}, words)] : [], ...shelved(title, list, ...how)]);
+  it.classList.toggle("aside", isCut);
+  const its = isCut ? [...grouped(list, ({ place }) => printable(place ?? "any place"))] : [];
+  const onPaper = `${head}: ${firstOf(its.map(([place, { length }]) => `${place}\u00A0(${length.toLocaleString("en")})`), "and", MOST_PRINTED)}. ${IN_FULL}`;
+  return !list.length ? [] : [it, ...isCut ? [el("p", { class: "paper" }, onPaper)] : []];
 }
 
 /**
@@ -136,8 +130,7 @@ function listOf(object) {
  */
 function logsOf(title, words, list, open, object, opener) {
   const { shelves } = summaryOf(object), isAside = (/** @type {number} */ at) => Number(object.logs[at].field !== "possible");
-  const sorted = [...list].sort((one, other) => isAside(other) - isAside(one) || inOrder(shelves.name(one), shelves.name(other)));
-  const items = sorted.slice(0, MOST_LOGS).map((at) => el("li", {}, oneLog(object, at, opener(at))));
+  const items = shelves.sorted(list).sort((one, other) => isAside(other) - isAside(one)).slice(0, MOST_LOGS).map((at) => el("li", {}, oneLog(object, at, opener(at))));
   return list.length ? [folded(`${title} (${count(list.length, "log")})`, open, ...words ? [el("p", {}, words)] : [],
     oneStop(el("ul", { class: "logs" }, items), ".log > summary"), ...rest(list.length - MOST_LOGS))] : [];
 }

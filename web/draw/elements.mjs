@@ -36,6 +36,12 @@ export const button = (words, data) => el("button", { type: "button", ...data },
 export const bullets = (items) => el("ul", {}, items.map((it) => el("li", {}, it)));
 
 /**
+ * What an answer rests on, in a line each.
+ * @param {string[]} words
+ */
+export const holds = (words) => words.length ? [el("section", { class: "holds" }, words.map((it) => el("p", {}, it)))] : [];
+
+/**
  * How many more there are than are shown.
  * @param {number} number
  */

@@ -14,15 +14,16 @@ const MOST_ROWS = 2000, MOST_COLUMNS = 8;
 const MOST_BARE = 4, SHELF = "shelf", UID = "UID";
 
 /**
- * A table of items, those of a shelf below its name: what to do, what the catalogue says of each, where it may be, and last its UID.
+ * A table of items with a caption, those of a shelf below its name: what to do, what the catalogue says of each, where it may be, and last its UID.
  * An item of which the catalogue says nothing else is named by its UID, in the column of these.
+ * @param {string} title
  * @param {Item[]} list
  * @param {Shelves} shelves
  * @param {Cell} shelf
  * @param {Record<string, Cell>} where
  * @param {Cell} [toDo]
  */
-export function shelved(list, shelves, shelf, where = {}, toDo) {
+export function shelved(title, list, shelves, shelf, where = {}, toDo) {
   const groups = grouped(list, shelf), isOne = groups.size === 1 && groups.has(""), isMany = groups.size > 1;
   const titled = (/** @type {string} */ name, /** @type {string} */ scope) =>
     el("tr", {}, el("th", { scope, colspan: String(heads.length) }, name.length > MOST_BARE ? name : name ? `Shelf ${name}` : "Place not known"));
@@ -48,7 +49,7 @@ export function shelved(list, shelves, shelf, where = {}, toDo) {
   const head = el("thead", {}, el("tr", {}, heads.map((it) => el("th", { scope: "col" }, printable(it))),
     isMany ? [el("th", { scope: "col", class: "paper" }, SHELF)] : []),
     ...groups.size === 1 && !isOne ? [titled([...groups.keys()][0], "colgroup")] : []);
-  const table = el("table", { class: heads.length > MOST_COLUMNS ? "items many" : "items" }, head, ...bodies);
+  const table = el("table", { class: heads.length > MOST_COLUMNS ? "items many" : "items" }, el("caption", {}, title), head, ...bodies);
   return list.length ? [table, ...rest(list.length - MOST_ROWS)] : [];
 }
 

@@ -5,7 +5,7 @@ import { KIND } from "../judge/objects.mjs";
 import { say } from "../say/say.mjs";
 import { alsoHolds, granted, HOLDS, ifDeaf, isApart, missed, onceMore, silentIn } from "../say/sure.mjs";
 import { count, dated, printable } from "../say/words.mjs";
-import { bullets, drawnLater, el, folded, linked, oneStop, rest, toLine } from "./elements.mjs";
+import { bullets, drawnLater, el, folded, holds, linked, oneStop, rest, toLine } from "./elements.mjs";
 import { maintainer } from "./maintainer.mjs";
 import { rounds } from "./rounds.mjs";
 
@@ -50,8 +50,7 @@ function conditions(told) {
   const { object: { kind, open, status }, counts } = told, also = alsoHolds(told)?.words, deaf = ifDeaf(told)?.words;
   const isOfAll = kind === KIND.COMPLETE || status === 1 && !open.count && !counts.listed;
   const sure = missed(told.object).map((it) => `${it} ${onceMore(told.object.margin ?? 0)}`);
-  const parts = [...isOfAll ? [HOLDS, ...sure] : [], ...also ? [also] : [], ...deaf ? [deaf] : []].map((it) => el("p", {}, it));
-  return parts.length ? [el("section", { class: "holds" }, parts)] : [];
+  return holds([...isOfAll ? [HOLDS, ...sure] : [], ...also ? [also] : [], ...deaf ? [deaf] : []]);
 }
 
 /** @param {import("../say/say.mjs").Said} said */

@@ -20,15 +20,27 @@ const COPIED = /^(?:Copy of )?(.+?)(?: ?\(\d+\)| ?- ?Copy(?: \(\d+\))?| copy(?: 
 export const isSpreadsheet = (text) => SPREADSHEET.test(text);
 
 /**
+ * How a text is coded by its mark; empty if that isn't UTF-16.
+ * @param {Uint8Array} text
+ */
+const codingOf = ([one, other]) => one === 0xFF && other === 0xFE ? "utf-16le" : one === 0xFE && other === 0xFF ? "utf-16be" : "";
+
+/**
  * A text in UTF-16 with its mark as UTF-8, or the start of one, which may end within a sign; any other one as it is.
  * @param {Uint8Array} text
  */
 export function utf8Of(text, isStart = false) {
-  const [one, other] = text, coding = one === 0xFF && other === 0xFE ? "utf-16le" : one === 0xFE && other === 0xFF ? "utf-16be" : "";
+  const coding = codingOf(text);
   try {
     return coding ? new TextEncoder().encode(new TextDecoder(coding, { fatal: true }).decode(text, { stream: isStart })) : text;
   } catch { return text; }
 }
+
+/**
+ * Whether a text has the mark of UTF-16, and isn't.
+ * @param {Given} file
+ */
+export const isBroken = ({ text }) => codingOf(text) !== "" && utf8Of(text) === text;
 
 /** @param {Given} file */
 export const startOf = ({ text }) => new TextDecoder("utf-8", { ignoreBOM: true }).decode(utf8Of(text.subarray(0, MOST_SEEN), true));

@@ -22,7 +22,7 @@ const MOST_ASKED = 60;
 /** Where the digits of a request's mask and of a UID begin. */
 const VALUE_AT = 6, UID_AT = 4, UID_DIGITS = 16;
 /** ISO/IEC 13239, 16-bit FCS: so many digits at the end of a frame. */
-export const CRC_DIGITS = 4;
+const CRC_DIGITS = 4;
 const CRC_START = 0xFFFF, CRC_POLYNOMIAL = 0x8408;
 
 /**

@@ -4,13 +4,14 @@ import { KIND } from "../judge/objects.mjs";
 import { copies, interchanged, leaving, ofAPlace, ofOtherDays, older, same, shared } from "./copies.mjs";
 import { SENTENCES } from "./sentences.mjs";
 import { firstOf, MOST_LISTED, nameOf } from "./shelves.mjs";
-import { count, printable } from "./words.mjs";
+import { count, listing, printable } from "./words.mjs";
 
 /** @typedef {import("../judge/objects.mjs").CollectionObject} CollectionObject */
 /** @typedef {import("./copies.mjs").Doubt} Doubt */
 /** @typedef {import("./shelves.mjs").Shelves} Shelves */
 
-const OTHERS = "An old one, or one of another collection, leave out.", NAME_IT = "Give each the name of its place. ";
+const OTHERS = "An old one, or one of another collection, leave out.", NAME_IT = "Call a log as its place. ";
+const ANY = "If what is there has no fixed place ('any'), write a table of places, with the columns place and log: it says of which place each log is. ";
 const NO_PLACE = "The catalogue names no place: delete its column place, or fill it.";
 const NONE_NAMED = "names none of these logs: correct its column log. Without it, each log is of the place after which it is named.";
 const NO_PLACES = "If items can stand on wrong shelves, add a column 'place', and name each log after its place.";
@@ -34,7 +35,7 @@ export function doubtsOf(object, shelves) {
   const asked = left([...copies(object, shelves), ...ofAPlace(object)]), those = namesIn(asked), alike = same(object, those);
   const doubts = [...asked, ...alike, ...left(interchanged(object)), ...ofPlaces(object, those, asked.flatMap(({ places = [] }) => places)),
     ...cutOff(object), ...left([...older(object, shelves), ...ofOtherDays(object, shelves)]), ...ruledOut(object, shelves),
-    ...withoutAnswer(object, shelves), ...left(shared(object, shelves, [...those, ...namesIn(alike)])), ...notAsked(shelves)];
+    ...withoutAnswer(object, shelves), ...left(shared(object, shelves, [...those, ...namesIn(alike)])), ...notAsked(object, shelves)];
   return { doubts, answered };
 }
 
@@ -58,7 +59,7 @@ function ofPlaces({ without_log, items, logs, files, file }, asked, known) {
   const isNone = !without_log.length && items.every(({ place }) => place === null);
   const [they, called] = lost.length > 1 ? ["them", "these names"] : ["it", "that name"];
   const unnamed = without_log.filter((place) => stemOf(`${place}.log`) !== place), name = unnamed.length ? `No file can be called ` +
-    `${firstOf(unnamed.map(printable))}: write a table of places, with the columns place and log. ` : NAME_IT;
+    `${firstOf(unnamed.map(printable))}: write a table of places, with the columns place and log. ` : NAME_IT + (items.some(({ place, uid }) => uid && place === null) ? ANY : "");
   const how = its ? `${printable(its.file)} doesn't name ${they}: correct its column log. ` : `The catalogue has no place of ${called}. ${name}`;
   const [cure, more] = isNone ? [NO_PLACE, {}] : table ? [`${named} ${NONE_NAMED}`, leaving([{ name: table.file }])] : [how + OTHERS, leaving(lost)];
   const noPlace = { short: `${firstOf(names)} ${lost.length === 1 ? "is" : "are"} of no place`, isFirst: true, cure, ...more,
@@ -102,9 +103,16 @@ function withoutAnswer({ logs }, shelves) {
 }
 
 /**
- * Where items belong is asked of several fields.
+ * Where items belong is asked of several fields; and which columns may say it: those that are called so, or have the names of all logs.
+ * @param {CollectionObject} object
  * @param {Shelves} shelves
  * @returns {Doubt[]}
  */
-const notAsked = ({ logs, isAsked }) => logs.length < 2 || isAsked ? []
-  : [{ short: "where each belongs wasn't asked", cure: NO_PLACES, words: SENTENCES.catalogues.noPlaces }];
+function notAsked({ logs, columns, items, status }, { isAsked }) {
+  const { like, meant, noPlaces } = SENTENCES.catalogues, isLike = new RegExp(like, "i"), names = logs.map(({ name }) => stemOf(name));
+  const isOfLogs = (/** @type {number} */ at, cells = new Set(items.map((it) => it.cells?.[at]))) => names.length && names.every((it) => cells.has(it));
+  const heads = isAsked ? [] : columns.filter((head, at) => isLike.test(head.normalize("NFKC")) || isOfLogs(at)).map((it) => `'${printable(it)}'`);
+  // one field needs no places, if all is there
+  return isAsked || logs.length < 2 && !(heads.length && status) ? []
+    : [{ short: "where each belongs wasn't asked", words: noPlaces, cure: heads.length ? meant.replace("{}", listing(heads, "or")) : NO_PLACES }];
+}

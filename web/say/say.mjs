@@ -30,13 +30,7 @@ const AGAIN = "Count again, to the end.";
 const NEW_LOG = "Count again, in a new log: with less interference, tags that lie still and not on top of each other, and no second reader.";
 const CYCLE = "Switch the reader off and on, and count again.";
 const LOOK = "Or look whether what isn't proved is there: the answer speaks only of what the log shows.";
-const EMPTY = ["If items should be here: check the antenna, switch the reader off and on, and count again.",
-  "If nothing should be here: lay an item with a tag at the antenna, and count again. Once it is found, there is nothing else to do."];
 export const IF_HEARD = "Nothing to do at the shelves. Whoever maintains the readers can let them show that they heard to the end, as said below.";
-const HEARS = "Nothing to do, if the reader worked to the end. How whoever maintains it can see that stands below.";
-export const NOTHING_TO_DO = "Nothing to do.", ONE_MORE = ["Spread out items that lie on each other, and count again.",
-  "If it stays so, send the log and this page (printed as PDF) to whoever maintains the reader: it stopped without asking all tags " +
-  "once more. Asking them all, until none answers, shows whether a strong reply hid a weaker one."];
 const ONE_ROUND = "To see whether others are here: run the inventory again, to a last round that no tag answers.";
 const COMPARE = "To see the items' titles, and what should be here: open a catalogue (CSV) together with the log.";
 /** If the list is what was expected here, and if it is what the reader found: of tags that didn't answer, and of others. */
@@ -51,7 +45,7 @@ const STAYS = "If the answer stays the same, send the log and this page (printed
 const NOT_CLAIMED = "If the reader wrote the list, its software has to write a U line for each UID that it heard in this log, and for no other.";
 const NO_LINES = "The log lists no UIDs: the reader's software has to write a U line for each UID that it heard.";
 /** What an answer means. */
-const ANSWERS = SENTENCES.answers, NO_CONFLICT = `${HIDDEN} Read so, the log doesn't contradict itself.`;
+const ANSWERS = SENTENCES.answers, STEPS = SENTENCES.steps, NO_CONFLICT = `${HIDDEN} Read so, the log doesn't contradict itself.`;
 
 /**
  * @param {Told} told
@@ -115,7 +109,7 @@ function lightsOf(told, isAlone, finished, list) {
  */
 function steps({ object: { kind, found, open, captured: ifHidden, deaf }, counts: { listed }, quiet }, isAlone) {
   if (kind === KIND.COMPLETE && !isAlone) return [];
-  if (kind === KIND.COMPLETE) return !listed ? EMPTY : ifHidden?.holds === false ? ONE_MORE : [deaf?.holds ? NOTHING_TO_DO : HEARS];
+  if (kind === KIND.COMPLETE) return !listed ? STEPS.empty : ifHidden?.holds === false ? STEPS.oneMore : deaf?.holds ? STEPS.nothing : STEPS.hears;
   if (!open.count && !listed) return [...ifHidden?.settled === false ? [ONE_ROUND, STAYS] : [], ...isAlone ? [COMPARE] : []];
   const isMore = found.unlisted > 0 && listed > 0, differs = found.absent > 0 || isMore;
   const titles = (differs || found.doubtful) && isAlone ? [COMPARE] : [];

@@ -55,20 +55,33 @@ export const SENTENCES = {
     "NoItems": ["the catalogue has no row", "Check that the file was written to its end."],
     "SameName": ["another log has that name, or is of a place by the same name", "Rename one of the two logs, or leave out the older one."],
     "Survey": ["this isn't a survey as vicinity survey writes it: it was cut off or changed", "Make the survey again, or copy its file again."],
+    "utf16": ["it seems to be UTF-16, but cut off, changed, or without its mark", "Copy the file again, or save the table as 'CSV UTF-8'."],
     "turned": ["the bytes of the UID are in the opposite order, with E0 last",
       "Turn the bytes of each UID round, so that E0 comes first: A1000000000104E0 is E0040100000000A1."]
   },
+  "first": { "\u0000": ["it seems to be UTF-16", "Save it as ASCII or UTF-8."], "\uFEFF": ["it begins with a byte order mark", "Save it as UTF-8 without one."],
+    "\r": ["its lines end with CR alone", "Save it with LF, or CR LF, at the end of each line: editors call these Unix and Windows."] },
+  "aLog": ["^(?:vicinity-(?!survey )|[TRHU] [0-9A-F]|[SCDNF]$|#)", "A log is text from the reader's software; its first line begins with 'vicinity-log'."],
   "files": {
-    "pdf": ["a PDF", "If it is an answer that was printed here, ask whoever sent it for the log, or for the page saved as HTML."],
-    "page": ["a web page", "If it was saved here as an answer, open it in the browser itself, as by a double click."],
-    "trace": ["a trace of a Proxmark", "It hasn't the slots in which no tag answered, so it can't show whether a tag was missed.",
+    "surveys": ["^vicinity-survey ", ", but a text of surveys, which says what logs say of their fields", "Open it together with a catalogue (CSV)."],
+    "pdf": ["^%PDF", ", but a PDF", "If it is an answer that was printed here, ask whoever sent it for the log, or for the page saved as HTML."],
+    "picture": ["^(?:\uFFFDPNG\r?$|GIF8|\uFFFD{3,4}.{1,4}(?:JFIF|Exif))", ", but a picture", "If it shows an answer, ask whoever sent it for the log."],
+    "page": ["^\\s*<(?:!doctype html|html)", ", but a web page", "If it was saved here as an answer, open it in the browser itself, as by a double click."],
+    "sheet": ["^(?:PK\u0003\u0004|\uFFFD\uFFFD\u0011[\u0871\uFFFD])", ", but a ZIP file, a spreadsheet or a document",
+      "Unpack a ZIP file, and open the logs that are in it.",
+      "Save a spreadsheet of what should be here as CSV (in Excel: Save As, CSV UTF-8), its column of tag numbers named 'uid'; open that with the logs."],
+    "packed": ["^(?:\u001F\uFFFD\b|BZh|\uFFFD7zXZ|7z\uFFFD\uFFFD'|Rar!|\\(\uFFFD/\uFFFD)", ", but a packed file", "Unpack it, and open what was in it."],
+    "trace": ["^\\s*(?:\\[[+=!#?|-]\\] |\\[(?:usb|bt|fpc)|pm3 |proxmark|Recorded activity|Start \\| +End \\| Src)", ", but a trace of a Proxmark",
+      "It hasn't the slots in which no tag answered, so it can't show whether a tag was missed.",
       "Ask whoever maintains a reader for a log: READERS of vicinity says which readers can write one, and how."],
-    "surveys": ["a text of surveys, which says what logs say of their fields", "Open it together with a catalogue (CSV)."],
-    "turned": ["a list of tag numbers whose bytes are in the opposite order, with E0 last",
-      "If it is what should be here: turn the bytes of each number round, so that E0 comes first, and write uid as the first line.",
-      "Then open it together with the logs. By itself it can't show whether a tag was missed: it doesn't say what was asked."],
-    "list": ["a list of tag numbers", "If it is what should be here: write uid as its first line, and open it together with the logs.",
-      "By itself it can't show whether a tag was missed: it says which tags were read, not what was asked."]
+    "json": ["^\\s*(?:\\{\\s*[\"}]|\\[\\s*[{\"\\[]|[{\\[]\\s*$)", ", but JSON, which programs exchange", "Open the log of which it was written, or a table (CSV)."],
+    "turned": ["^\\W{0,3}(?!E0)(?:[0-9A-F]{2}[ :.-]?){7}E0\\W{0,3}$", ", but a list of tag numbers whose bytes are in the opposite order, with E0 last",
+      "If it is what should be here: turn the bytes of each number round, so that E0 comes first, write uid as the first line, and open it with the logs."],
+    "list": ["^\\W{0,3}(?:uid|E0(?:[ :.-]?[0-9A-F]{2}){7})\\W{0,3}$", ", but a list of tag numbers", "If it is what should be here: write uid as its first line, and open it together with the logs.",
+      "By itself it can't show whether a tag was missed: it says which tags were read, not what was asked."],
+    "binary": ["[\u0000\uFFFD]", ": it isn't text in UTF-8", "If it is text, in UTF-16 for example, save it as ASCII or UTF-8."],
+    "table": ["[,;\\t|]", "", "If it is a table of what should be here: name the column of tag numbers 'uid' in its first row, and open it with the logs."],
+    "text": ["", "", "Choose another file, or count again."]
   },
   "failures": {
     "none": "this browser doesn't run what judges it", "memory": "there isn't enough memory for it: close other tabs and programs, and open it again",
@@ -84,7 +97,8 @@ export const SENTENCES = {
   "catalogues": {
     "cut": "of which the last has no line end, so the file may have been cut off",
     "noPlaces": "The catalogue has no column 'place', so an item on a wrong shelf isn't noticed, nor a shelf that wasn't counted.",
-    "almost": "Column {} is called {}, which isn't that name."
+    "like": "^[\\W_]*(?:places?|shel(?:f|ves)|(?:shelf|place) ?marks?|locations?|rooms?|bays?|racks?|bins?|box(?:es)?|drawers?|cabinets?)[\\W_]*$",
+    "meant": "If column {} says where each item belongs, rename it to place."
   },
   "parts": {
     "count": "Don't change this line. Count again, using only Inventory and Stay Quiet.",
@@ -92,9 +106,17 @@ export const SENTENCES = {
     "damaged": "A reply that was damaged gets the line D in a log of version 2 or 3; in version 1 its slot, and the rest of its round, get no line.",
     "logger": "Fix the software that writes the log."
   },
+  "steps": {
+    "nothing": ["Nothing to do."], "hears": ["Nothing to do, if the reader worked to the end. How whoever maintains it can see that stands below."],
+    "empty": ["If items should be here: check the antenna, switch the reader off and on, and count again.",
+      "If nothing should be here: lay an item with a tag at the antenna, and count again. Once it is found, there is nothing else to do."],
+    "oneMore": ["Spread out items that lie on each other, and count again.",
+      "If it stays so, send the log and this page (printed as PDF) to whoever maintains the reader: it stopped without asking all tags once more. Asking them all, until none answers, shows whether a strong reply hid a weaker one."]
+  },
   "answers": {
+    "holds": "This is said of tags that had power, heard the reader, and were heard when they answered: one that never answers is in no log.",
     "contradicts": "This count can't be used. The log contradicts itself: ", "cannotBeUsed": "This log can't be used",
-    "noLog": "This text isn't a log", "notFinished": "Not finished: ", "empty": "No tag answered, and nothing is listed.",
+    "noLog": "This text isn't a log", "foreign": "This file isn't a log{}.", "notFinished": "Not finished: ", "empty": "No tag answered, and nothing is listed.",
     "emptyField": "No tag answered.", "noneAnswered": ["No tag answered, but {} is listed.", "No tag answered, but {} are listed."],
     "allListed": ["The one listed tag is here", "All {} listed tags are here"], "tagsHere": ["{} tag is here", "{} tags are here"],
     "noOthers": [", and no other.", ", and no others."], "noOthersHeard": [", and no other answered.", ", and no others answered."],

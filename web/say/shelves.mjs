@@ -7,8 +7,8 @@ import { listing, printable } from "./words.mjs";
 
 /** How many names are said in few words, and in a sentence. */
 export const MOST_NAMES = 3, MOST_LISTED = 12;
-/** Columns that say what the page says otherwise. */
-const KNOWN = new Set(["uid", "away"]);
+/** Columns that say what the page says otherwise, and that of places, as the library reads its name. */
+const KNOWN = new Set(["uid", "away"]), PLACE = /^[ \t]*place[ \t]*$/i;
 /** Shelf 2 before Shelf 10. */
 export const inOrder = new Intl.Collator("en", { numeric: true }).compare;
 
@@ -23,7 +23,7 @@ export class Shelves {
   constructor({ logs, columns }) {
     this.logs = logs;
     /** Whether the catalogue asks for places: then each log is of one, or left over. */
-    this.isAsked = logs.some((log) => log.place !== null || log.left_over);
+    this.isAsked = columns.some((head) => PLACE.test(head));
     this.counted = grouped(logs.keys(), (at) => logs[at].place);
     /** What is said of lists of logs, which many items share. */
     this.called = /** @type {WeakMap<number[], string>} */ (new WeakMap());
@@ -39,6 +39,9 @@ export class Shelves {
     const { place, name } = this.logs[at];
     return place === null ? nameOf(name) : printable(place);
   }
+
+  /** @param {number[]} logs */
+  sorted(logs) { return [...logs].sort((one, other) => inOrder(this.name(one), this.name(other))); }
 
   /**
    * @param {number[]} logs

@@ -3,7 +3,7 @@ import { grouped, madeOnce } from "../judge/groups.mjs";
 import { KIND } from "../judge/objects.mjs";
 import { doubtsOf, IS_EMPTY } from "./doubts.mjs";
 import { noOthers } from "./say.mjs";
-import { inOrder, MOST_NAMES, Shelves } from "./shelves.mjs";
+import { MOST_NAMES, Shelves } from "./shelves.mjs";
 import { DEAF, deafIn, HOLDS, howSure, mayBeWrong, missed, notSure, stillHolds } from "./sure.mjs";
 import { count, listing } from "./words.mjs";
 
@@ -81,7 +81,7 @@ export function headlineOf(object) {
  */
 function lacking(object) {
   const { here, shelves, doubts, of, elsewhere, others, strays: stray, open, isAsked, isUnsettled } = summaryOf(object), strays = stray.length;
-  const { counts, logs } = object, again = [...open].sort((one, other) => inOrder(shelves.name(one), shelves.name(other)));
+  const { counts, logs } = object, again = shelves.sorted(open);
   const unsure = new Set(doubts.flatMap(({ numbers = [] }) => numbers));
   const maybe = of("misplaced").filter((item) => !shelves.isStray(item) && item.certain_in.every((at) => unsure.has(at) || logs[at].left_over));
   const { length: lost } = of("missing").filter(({ place }) => place !== null && shelves.counted.get(place)?.every((at) => unsure.has(at)));
@@ -132,10 +132,9 @@ function lights(object) {
 export function conditionsOf(object) {
   const { shelves, hiding, deaf, isResting, isUnsettled } = summaryOf(object), { counts, margin, logs } = object;
   if (!isResting && !counts.unexpected) return [];
-  const sorted = (/** @type {number[]} */ all) => [...all].sort((one, other) => inOrder(shelves.name(one), shelves.name(other)));
   // of what is to be counted again nothing else is asked, nor said
-  const answered = sorted(deaf).filter((at) => logs[at].answers), isSaid = !isUnsettled && !logs.some(({ hidden }) => hidden);
-  const also = hiding.length ? `${mayBeWrong(` ${shelves.fields(sorted(hiding))},`)}.` : isSaid ? stillHolds(margin?.margin) : "";
+  const answered = shelves.sorted(deaf).filter((at) => logs[at].answers), isSaid = !isUnsettled && !logs.some(({ hidden }) => hidden);
+  const also = hiding.length ? `${mayBeWrong(` ${shelves.fields(shelves.sorted(hiding))},`)}.` : isSaid ? stillHolds(margin?.margin) : "";
   const sure = margin && !isUnsettled ? [HOLDS, ...missed(margin, ` ${shelves.fields([margin.log])}`)] : [];
   const ifDeaf = answered.length ? deafIn(` ${shelves.fields(answered)}`) : deaf.length ? DEAF : "";
   return [...sure, also, ...isResting ? [ifDeaf] : []].filter((it) => it);

@@ -9,7 +9,7 @@ import { count, ending, numbered } from "./words.mjs";
 /** @typedef {import("./say.mjs").Light} Light */
 
 /** What a complete answer speaks of. */
-export const HOLDS = "This is said of tags that had power, heard the reader, and were heard when they answered.";
+export const HOLDS = SENTENCES.answers.holds;
 /** How it is said whether an answer about tags would also be that of a log whose replies may have hidden others. */
 const IF_HIDDEN = "If a strong reply hid a weaker one, the answer ";
 const IF_DEAF = "If the reader had gone deaf after the last answer of a tag, the answer ";

@@ -3,13 +3,8 @@ import { hex, UID_BITS } from "../judge/frames.mjs";
 
 /** @typedef {import("../judge/frames.mjs").Mask} Mask */
 
+/** The bits that each UID has. */
 const E0 = 0xE0n << BigInt(UID_BITS);
-
-/**
- * The UID that lies in a mask of at least these bits, which fixes it.
- * @param {Mask} mask
- */
-const uidOf = (mask) => mask.value | E0;
 
 /**
  * 1 tag, 2,000 tags.
@@ -59,7 +54,7 @@ export function short(uid, others = []) {
 export function ending(mask) {
   const digits = Math.floor(mask.len / 4), bits = mask.len % 4, low = digits ? hex(BigInt.asUintN(4 * digits, mask.value), digits) : "";
   if (mask.len === 0) return "any UID";
-  if (mask.len >= UID_BITS) return hex(uidOf(mask));
+  if (mask.len >= UID_BITS) return hex(mask.value | E0);
   if (bits === 0) return `UIDs ending in ${low}`;
   const top = Number(mask.value >> BigInt(4 * digits));
   if (bits === 1 && !low) return `UIDs ending in an ${top ? "odd" : "even"} digit`;

@@ -15,8 +15,6 @@ from ..logs.words import count
 UID, PLACE, NEARLY = "uid", "place", ("place", "places")
 #: What separates cells, in the order in which it is tried.
 SEPARATORS = ",;\t"
-#: What is no letter, digit or sign of a name.
-OTHER = re.compile(r"[\W_]+")
 DOUBTS = SENTENCES["catalogues"]
 
 
@@ -40,9 +38,9 @@ def doubts(tables: Iterable[tuple[str, bytes]]) -> Iterator[str]:
             lines = count(table.count(b"\n") + 1, "line")
             yield f"{shown(name)} has {lines}, {DOUBTS['cut']}"
         for number, column in enumerate(columns, 1) if PLACE not in map(_name, columns) else ():
-            if OTHER.sub("", unicodedata.normalize("NFKC", column)).lower() in NEARLY:
-                yield f"{shown(name)}: {DOUBTS['noPlaces']} " + DOUBTS["almost"].format(
-                    number, json.dumps(column))
+            if re.sub(r"[\W_]+", "", unicodedata.normalize("NFKC", column)).lower() in NEARLY:
+                yield f"{shown(name)}: {DOUBTS['noPlaces']} " + DOUBTS["meant"].format(
+                    f"{number}, {json.dumps(column)},")
 
 
 def _name(cell: str) -> str:

@@ -12,7 +12,7 @@ from .._objects import NOT_COMPLETE, Object, object_of, too_small
 from .._process import (Arguments, NoAnswer, complain, names_of, read, read_log, shown,
                         tell_terminal, write)
 from .._run import Written, run
-from .._sentences import advice
+from .._sentences import SENTENCES, advice
 from ..pages.document import document, page_object
 from ..logs.findings import JudgedLog
 from ..logs.headline import MAY_BE_HERE, READ_AGAIN, STILL_COMPLETE
@@ -28,9 +28,6 @@ WRITES = {"lines": "reconcile", "csv": "collection", "json": OBJECT, "page": OBJ
 WANTED = ("these aren't the files of a collection: one catalogue, at most one table of places, and "
           "logs or surveys, with names in UTF-8 and without control characters")
 NO_LOGS = "no log is given, so nothing is counted: did a pattern, or a list of names, find none?"
-#: What a terminal is told of a complete collection.
-HEARD = ("This is said of tags that had power, heard the reader, "
-         "and were heard when they answered: one that never answers is in no log.")
 #: States in which nothing is to be done.
 DONE = "in place", "there", "away", "no tag"
 #: How much text of logs stands in a page, and how many logs a sentence names.
@@ -83,13 +80,9 @@ def _text(name: str) -> tuple[bytes, bool]:
     try:
         text = read(name)
         is_log = not text or text.startswith(LOG) and not text.startswith(SURVEYS)
-        return _survey(name, text) if is_log else text, is_log
+        return _written("survey", [(name, text)]).text if is_log else text, is_log
     except MemoryError:
         raise NoAnswer(f"out of memory: {shown(name)}") from None
-
-
-def _survey(name: str, text: bytes) -> bytes:
-    return _written("survey", [(name, text)]).text
 
 
 def _written(command: str, files: Files) -> Written:
@@ -126,7 +119,7 @@ def _page(files: Files, logs: set[str], found: Object) -> Iterator[str]:
         name, text = log["name"], b""
         if name in logs and os.path.isfile(name):
             text = read_log(name)
-            if _survey(name, text) != surveys[name]:
+            if _written("survey", [(name, text)]).text != surveys[name]:
                 raise NoAnswer(f"{shown(name)} has changed since it was read first")
             log["sha256"] = sha256(text).hexdigest()
         log.update([("changed", age) for age in (
@@ -163,7 +156,7 @@ def _notes(written: Written, answer: Object, is_shown: bool) -> Iterator[str]:
     if not is_shown or not answer:
         return
     if written.status == 0:
-        yield HEARD
+        yield SENTENCES["answers"]["holds"]
         yield from _sure(answer)
     names = [log["name"] for log in answer["logs"]]
     yield from summary([

@@ -20,6 +20,8 @@ def headline(log: JudgedLog) -> str:
     """The answer in a sentence, as the page says it."""
     answer = log.answer
     if answer.kind is Kind.REFUSED:
+        if log.rows.foreign:
+            return str(ANSWERS["foreign"]).format(log.rows.foreign[0])
         what = ANSWERS["cannotBeUsed" if answer.line > 1 else "noLog"]
         cut = " The text ends in the middle of this line: was it cut?" if log.rows.is_cut else ""
         return f"{what}. Line {answer.line}: {log.rows.advice(answer.fault.word).wrong}.{cut}"
@@ -38,7 +40,7 @@ def _unfinished(log: JudgedLog) -> str:
     here, of_listed = numbered("tagsHere", certain), _of_listed(log)
     others = silenced or ANSWERS["othersAre" if log.is_more else "othersMayBe"]
     none = silenced or ANSWERS["noneRead" if log.is_more else "noneProved"]
-    sentence = _first(
+    sentence = first(
         (not left and not listed, f"{here}{_others(log, certain)}"),
         (not left and not certain, numbered("noneAnswered", listed)),
         (not listed and not certain, f"{none}."),
@@ -49,7 +51,7 @@ def _unfinished(log: JudgedLog) -> str:
     return f"{not_finished}{sentence}{'' if listed else ANSWERS['noList']}"
 
 
-def _first(*cases: tuple[object, str]) -> str:
+def first(*cases: tuple[object, str]) -> str:
     """The words of the first case whose condition holds."""
     return next(words for holds, words in cases if holds)
 
@@ -98,7 +100,7 @@ def lights(log: JudgedLog) -> Iterator[tuple[str, str]]:
     kind, is_complete, number = log.answer.kind, log.answer.is_complete, log.answer.count
     if kind is Kind.REFUSED:
         return
-    yield "Search finished", _first(
+    yield "Search finished", first(
         (kind is Kind.IMPOSSIBLE, "not known"), (log.object["open"]["count"], "no"),
         (log.settles("captured"), "yes"), (True, "not known yet"))
     yield "List", _list(log)
@@ -109,21 +111,21 @@ def lights(log: JudgedLog) -> Iterator[tuple[str, str]]:
         if is_complete and log.holds(reading):
             yield name, STILL_COMPLETE if number else "still empty"
         elif log.is_shaken(reading):
-            yield name, _first((is_complete and not number, "tags may be here"),
-                               (is_complete or not log.rows.listed, MAY_BE_HERE),
-                               (True, "the answer may be wrong"))
+            yield name, first((is_complete and not number, "tags may be here"),
+                              (is_complete or not log.rows.listed, MAY_BE_HERE),
+                              (True, "the answer may be wrong"))
 
 
 def _list(log: JudgedLog) -> str:
     """What the list is worth."""
     found, is_complete = log.object["found"], log.answer.is_complete
-    return _first((not log.rows.listed, "none given"),
-                  (log.answer.kind is Kind.IMPOSSIBLE, "not known"),
-                  (is_complete and log.holds("captured"), "matches"),
-                  (is_complete, "matches what was heard"),
-                  (found["absent"] or found["unlisted"], "differs"),
-                  (log.is_more and not found["doubtful"], "incomplete"),
-                  (True, "not known yet"))
+    return first((not log.rows.listed, "none given"),
+                 (log.answer.kind is Kind.IMPOSSIBLE, "not known"),
+                 (is_complete and log.holds("captured"), "matches"),
+                 (is_complete, "matches what was heard"),
+                 (found["absent"] or found["unlisted"], "differs"),
+                 (log.is_more and not found["doubtful"], "incomplete"),
+                 (True, "not known yet"))
 
 
 def _contradiction(log: JudgedLog) -> str:

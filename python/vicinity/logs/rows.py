@@ -11,7 +11,7 @@ from typing import Container, Iterable, NamedTuple, Optional, Sequence
 
 from .._answers import Mask
 from .._objects import UID_BITS
-from .._sentences import Advice, advice
+from .._sentences import Advice, advice, foreign
 from ..frames import (Request, read_request, read_response, slot_mask, write_inventory, write_line,
                       write_stay_quiet)
 
@@ -25,8 +25,8 @@ MOST_ROUNDS = 1000
 #: The bits of the link in the flags of a request, and the link if there is no request.
 LINK, ANY_LINK = 3, 2
 STAY_QUIET = b"02"
-#: How much of a refused line is kept.
-MOST_QUOTED = 160
+#: How much of a refused line is kept, and how much of the first one is looked at.
+MOST_QUOTED, MOST_SEEN = 160, 4096
 #: What may be read in a slot, by the letter of its line: its sign and colour in a terminal,
 #: and in words, in which a UID that was heard takes the place of the braces.
 READINGS = {
@@ -113,9 +113,12 @@ class Rows:
             start += len(line)
         self._heard |= heard
         line, end, _ = self.text[start:start + MOST_QUOTED].partition(b"\n")
+        first = text[:MOST_SEEN].partition(b"\n")[0].decode(errors="replace").rstrip("\r")
+        #: What it is, and what to do, if nobody meant it as a log.
+        self.foreign = foreign(first) if refused == 1 else ()
         #: The refused line, whether the text ends in it, and the text until its end.
         self.refused, self.until_refused = line, self.text[:start] + line + end
-        self.is_cut = start < len(self.text) and self.text.find(b"\n", start) < 0
+        self.is_cut = 0 < start < len(self.text) and self.text.find(b"\n", start) < 0
 
     def row(self, index: int) -> Row:
         """A row, of the text with its comments."""

@@ -11,7 +11,7 @@ from .._process import shown
 from .._sentences import SENTENCES
 from ..frames import read_request, uid_text
 from .findings import CONFLICTS, MOST_LINES, WORDS, JudgedLog
-from .headline import headline, lights
+from .headline import first, headline, lights
 from .report import described
 from .rows import READINGS, Row, Rows, Slot
 from .words import count, ending, meaning, span
@@ -24,8 +24,7 @@ GREEN = "1;32"
 NAMED = "7"
 #: How many lines a picture has at most, what is found, what to send where rounds take the rest, and
 #: what signs mean; and how many tags are silenced in these lines.
-MOST, MOST_FOUND, MOST_SENT, MOST_LEGEND = 24, 6, 6, 2
-MOST_SILENCED = 3
+MOST, MOST_FOUND, MOST_SENT, MOST_LEGEND, MOST_SILENCED = 24, 6, 6, 2, 3
 NO_BREAK = "\u00a0"
 #: The slots of a round, and how many columns each takes.
 SLOTS, CELL = 16, 3
@@ -62,26 +61,27 @@ class Look(NamedTuple):
 def show(log: JudgedLog, look: Look = Look()) -> Iterator[str]:
     """The lines of a picture: the page's headline and lights, the answer, findings, requests, and
     rounds with a legend."""
-    answer, colour = log.answer, _colour(log)
+    # green only where the page is
+    answer, is_sure = log.answer, log.answer.is_complete and _step(log) == "nothing"
+    colour = GREEN if is_sure else ANSWER_COLOURS[answer.status]
     known = [f"{name}: {value}" for name, value in (*lights(log), ("Answer", answer.text))]
     head = [*(look.painted(line, colour) for line in look.wrapped(headline(log))),
             *look.joined(known, "; ")]
     findings, sent = _few(_findings(log, look), MOST_FOUND), list(islice(_sent(log, look), MOST))
-    last = [MORE] * (answer.status > 0)
+    last = [MORE] * (answer.status > 0 and not log.rows.foreign)
     # between the parts are blank lines
     left = MOST - sum(len(part) + 1 for part in (head, findings, last) if part)
     rounds = list(_picture(log, look, left - min(len(sent), MOST_SENT) - 1))
     few = _few(sent, max(1, left - len(rounds) - 1))
-    parts = [head, findings, few, rounds, last]
-    lines = "\n\n".join("\n".join(part) for part in parts if part).split("\n")
-    yield from (line if look.utf8 else line.translate(ASCII) for line in lines)
+    text = "\n\n".join("\n".join(it) for it in (head, findings, few, rounds, last) if it)
+    yield from (text if look.utf8 else text.translate(ASCII)).split("\n")
 
 
-def _colour(log: JudgedLog) -> str:
-    """The colour of an answer: green only where its page is, for a list that stays complete if
-    replies were hidden and if the reader went deaf."""
-    is_sure = log.answer.is_complete and log.holds("captured") and log.holds("deaf")
-    return GREEN if is_sure and log.answer.count else ANSWER_COLOURS[log.answer.status]
+def _step(log: JudgedLog) -> str:
+    """What there is to do where a list is complete: nothing, if it stays so if replies were hidden
+    and if the reader went deaf, too."""
+    return first((not log.answer.count, "empty"), (not log.holds("captured"), "oneMore"),
+                 (not log.holds("deaf"), "hears"), (True, "nothing"))
 
 
 def _few(lines: Iterable[str], most: int) -> list[str]:
@@ -192,7 +192,10 @@ def _findings(log: JudgedLog, look: Look) -> Iterator[str]:
     if log.refused_line:
         yield f"line {log.refused_line}: " + (
             shown(rows.refused.removesuffix(b"\r"))[:look.columns // 2] or "(empty)")
-        yield from look.wrapped(rows.advice(log.answer.fault.word).fix)
+        yield from look.wrapped(
+            " ".join(rows.foreign[1:]) or rows.advice(log.answer.fault.word).fix)
+    if log.answer.is_complete:
+        yield from look.wrapped(SENTENCES["steps"][_step(log)][0])
     for finding, words in described(log, MOST_LINES):
         where, kind = f"line {finding.line}: " if finding.line else "", finding.kind
         if kind in LISTED and (rows.listed or kind is not FindingKind.UNLISTED):
@@ -220,21 +223,15 @@ def _sent(log: JudgedLog, look: Look) -> Iterator[str]:
     elif left["count"] or log.answer.status > 1:
         return
     elif not log.settles("captured"):
-        yield from [*look.wrapped(REQUESTS["hidden"]), *_silencing(log),
-                    rows.ask(Mask(0, 0))]
+        quiets = [rows.silence(int(uid, 16)) for uid in certain["uids"]]
+        if quiets[MOST_SILENCED:]:
+            quiets = [f"(a Stay Quiet to each of {certain['count']:,} tags)"]
+        yield from [*look.wrapped(REQUESTS["hidden"]), *quiets, rows.ask(Mask(0, 0))]
     elif log.is_shaken("deaf") and certain["count"]:
         why = "" if rows.has_cycles else f" {REQUESTS['noCycles']}"
         yield from look.wrapped(REQUESTS["heard"] + why)
         heard = Mask(UID_BITS, int(certain["uids"][0][2:], 16))
         yield from ["F", rows.ask(heard)] if rows.has_cycles else ()
-
-
-def _silencing(log: JudgedLog) -> list[str]:
-    """The Stay Quiets for the tags that are certain, or that each of these is to get one."""
-    certain = log.object["certain"]
-    if certain["count"] > MOST_SILENCED:
-        return [f"(a Stay Quiet to each of {certain['count']:,} tags)"]
-    return [log.rows.silence(int(uid, 16)) for uid in certain["uids"]]
 
 
 def _asking(lines: Iterable[str], look: Look) -> Iterator[str]:
