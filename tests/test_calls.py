@@ -126,15 +126,15 @@ def test_each_fault_of_a_frame(calls, call, name, frame):
 
 
 def test_random_frames_are_written_and_read(calls):
-    chance = random.Random(15693)
+    rng = random.Random(15693)
     for _ in range(NUMBER):
-        frame, _, numbers = inventory(chance)
+        frame, _, numbers = inventory(rng)
         assert calls.write_inventory(*numbers) == framed(frame)
         assert calls.read_request(bytes.fromhex(frame)) == (0, *numbers, 0)
-        frame, _, (link, uid) = stay_quiet(chance)
+        frame, _, (link, uid) = stay_quiet(rng)
         assert calls.write_stay_quiet(link, uid) == framed(frame)
         assert calls.read_request(bytes.fromhex(frame)) == (0, link, 0, 0, 0, uid)
-        frame, _, numbers = reply(chance)
+        frame, _, numbers = reply(rng)
         assert calls.write_response(*numbers) == framed(frame)
         assert calls.read_response(bytes.fromhex(frame)) == (0, *numbers)
         assert calls.add_crc(bytes.fromhex(frame)[:-2]) == framed(frame)

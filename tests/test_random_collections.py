@@ -11,7 +11,7 @@ from collections import Counter
 import pytest
 
 from helpers import collections, surveys
-from helpers.collection_rows import is_right, reader, rows, texts_of
+from helpers.collection_rows import files_of, is_right, reader, rows
 from helpers.oracle import Judge
 from helpers.random_collections import case_of, changed_texts, seed_texts, world_of
 
@@ -32,7 +32,7 @@ def run(program, tmp_path):
 @pytest.mark.parametrize(("command", "files", "row", "answer"),
                          [row for row in rows() if row.values[0] in COMMANDS])
 def test_row(run, command, files, row, answer):
-    said = run(command, files, texts_of(row))
+    said = run(command, files, files_of(row))
     assert is_right(answer, said), said
 
 
@@ -59,7 +59,7 @@ class Asked:
             self.put(name, text)
             out, err, status = self.run("survey", name)
             found, wanted = surveys.read(out), surveys.of(name, text)
-            assert isinstance(found, list) and surveys.text_of(found) == out, out
+            assert isinstance(found, list) and surveys.written(found) == out, out
             told, = found
             assert (err, status) == (b"", STATUSES[wanted.field.split()[0]])
             assert told._replace(certain=set(told.certain)) == wanted._replace(
@@ -71,7 +71,7 @@ class Asked:
     def told(self, command, words):
         """What a command writes, which is what the model says."""
         said = self.run(command, *words)
-        wanted = collections.told(command, words, reader(self.texts), self.survey)
+        wanted = collections.run(command, words, reader(self.texts), self.survey)
         assert said == wanted, (command, words, self.texts)
         return said
 

@@ -70,7 +70,7 @@ MEASURING, NO_MARGIN = ("margin", "margin_listed"), bytes(WeakestStruct())
 # The status of a call that was refused memory.
 REFUSED = 4
 # Logs of which each allocation is refused.
-GROWING = ("I16 S C S14 N1 S10 RA RB1 S4 UA UB1", "I1 S I1 RA", "I1 RA", "I1 S UA", "I1 C UA")
+GROWING = ("I16 S C S14 I16M1 S10 RA RB1 S4 UA UB1", "I1 S I1 RA", "I1 RA", "I1 S UA", "I1 C UA")
 
 
 def test_the_module_needs_nothing_and_exports_the_calls(wasm_module):

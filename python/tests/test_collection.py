@@ -90,7 +90,7 @@ class Rows(Command):
         number = 0
         for param in collection_rows.rows():
             command, files, row, answer = param.values
-            form, texts = ROWS.get(command), collection_rows.texts_of(row)
+            form, texts = ROWS.get(command), collection_rows.files_of(row)
             if not form or answer["status"] == 4 or param.marks or not set(files) <= texts.keys():
                 continue
             if command == "reconcile" and texts[files[0]][:9] in (b"", b"vicinity-"):
