@@ -80,13 +80,9 @@ def _text(name: str) -> bytes:
     try:
         text = read(name)
         is_log = not text or text.startswith(LOG) and not text.startswith(SURVEYS)
-        return _survey(name, text) if is_log else text
+        return _written("survey", [(name, text)]).text if is_log else text
     except MemoryError:
         raise NoAnswer(f"out of memory: {shown(name)}") from None
-
-
-def _survey(name: str, text: bytes) -> bytes:
-    return _written("survey", [(name, text)]).text
 
 
 def _written(command: str, files: Files) -> Written:
@@ -123,7 +119,7 @@ def _page(files: Files, found: Object) -> Iterator[str]:
         name, text = log["name"], b""
         if os.path.isfile(name) and name in surveys:
             text = read_log(name)
-            if _survey(name, text) != surveys[name]:
+            if _written("survey", [(name, text)]).text != surveys[name]:
                 raise NoAnswer(f"{shown(name)} has changed since it was read first")
             log["sha256"] = sha256(text).hexdigest()
         log.update([("changed", age) for age in _changed(name) or sorted(ages)[:1]])

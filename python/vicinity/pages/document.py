@@ -1,6 +1,7 @@
 """A page: the one file that web/ makes, with what it draws in it,
 and plain text for whom no script draws it."""
 import json
+import re
 import runpy
 from hashlib import sha256
 from html import escape
@@ -26,9 +27,7 @@ def template() -> str:
 
 def document(title: str, pieces: Iterable[str], plain: Iterable[str]) -> Iterator[str]:
     """The page of an object, which comes as pieces of JSON, and of lines of text."""
-    head, _, rest = template().partition("{{title}}")
-    before, _, rest = rest.partition("{{plain}}")
-    between, _, tail = rest.partition("{{object}}")
+    head, before, between, tail = re.split("{{title}}|{{plain}}|{{object}}", template())
     yield head + escape(title) + before
     yield from (f"{escape(line)}\n" for line in plain)
     yield between
