@@ -22,6 +22,7 @@ REFUSALS = "WrongLink WrongSlots WrongMask WrongSlot WrongReply TooLong WrongLet
 FAULTS = """Short Crc Extension Reserved OptionFlag OtherCommand InventoryFlag Afi Length
     MaskTooLong MaskPadding SelectFlag NotAddressed ErrorFlag NotVicinity""".split()
 UID_A, UID_B = 0xE0040100000000A1, 0xE0040100000000B2
+A, B = f"{UID_A:016X}", f"{UID_B:016X}"
 LITTLE_A = UID_A.to_bytes(8, "little")
 ALONE = 56, 0x040100000000A1
 WITHOUT_TEXT = "refused at line 1: Header"
@@ -151,9 +152,6 @@ def test_the_name_of_each_number(calls, what, first, words):
         assert name(number) == (len(word), word.encode()), number
     for number in (50, 99, 300, 1000, 1 << 31, (1 << 32) - 1):
         assert name(number) == (0, b""), number
-
-
-A, B = "E0040100000000A1", "E0040100000000B2"
 
 
 def refusable(line):

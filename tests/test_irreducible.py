@@ -50,7 +50,7 @@ def test_no_line_of_a_conflict_can_be_left_out(asked, pytestconfig, part):
         text = log_text(version, lines).decode()
         assert numbers and numbers == sorted(kept) and is_impossible(kept), text
         for number in numbers:
-            without = {n: slot for n, slot in kept.items() if n != number}
+            without = {line: slot for line, slot in kept.items() if line != number}
             assert not is_impossible(without), f"{number} of {text}"
 
 

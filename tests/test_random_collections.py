@@ -18,7 +18,6 @@ from helpers.random_collections import case_of, changed_texts, seed_texts, world
 # How many random collections there are, and how many changed texts of surveys, in how many parts.
 NUMBER, CHANGED, PARTS, SEED = 2000, 20_000, 5, 15699
 COMMANDS = "collection", "json-collection"
-STATUSES = {"possible": 0, "impossible": 2, "refused": 3}
 
 
 @pytest.fixture
@@ -61,10 +60,8 @@ class Asked:
             found, wanted = surveys.read(out), surveys.of(name, text)
             assert isinstance(found, list) and surveys.written(found) == out, out
             told, = found
-            assert (err, status) == (b"", STATUSES[wanted.field.split()[0]])
-            assert told._replace(certain=set(told.certain)) == wanted._replace(
-                certain=set(wanted.certain)), text
-            assert all(told.certain[uid][0] in lines for uid, lines in wanted.certain.items()), text
+            assert (err, status) == (b"", wanted.status)
+            assert surveys.is_right(told, wanted), text
             self.surveys[name] = told
         return self.surveys[name]
 

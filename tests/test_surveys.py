@@ -12,7 +12,6 @@ from helpers.random_logs import log_text, random_log
 
 # How many random collections and other random logs are surveyed, in how many parts.
 NUMBER, PARTS, SEED = 1500, 5, 15699
-STATUSES = {"possible": 0, "impossible": 2, "refused": 3}
 
 
 @pytest.fixture
@@ -41,13 +40,6 @@ def logs_of(rng):
     return {name: text for name, text in files.items() if kind_of(text) == "log"}
 
 
-def as_it_has_to_be(told, wanted):
-    """Whether a survey is right; of several lines that show a UID one was chosen."""
-    return told._replace(certain=set(told.certain)) == wanted._replace(
-        certain=set(wanted.certain)) and all(
-            told.certain[uid][0] in lines for uid, lines in wanted.certain.items())
-
-
 @pytest.mark.slow
 @pytest.mark.parametrize("part", range(PARTS))
 def test_random_logs(survey, logs, part):
@@ -58,5 +50,5 @@ def test_random_logs(survey, logs, part):
             out, err, status = survey(texts, texts)
             told, wanted = surveys.read(out), [surveys.of(*log) for log in texts.items()]
             assert surveys.written(told) == out
-            assert all(map(as_it_has_to_be, told, wanted)) and len(told) == len(wanted), texts
-            assert (err, status) == (b"", max(STATUSES[one.field.split()[0]] for one in wanted))
+            assert all(map(surveys.is_right, told, wanted)) and len(told) == len(wanted), texts
+            assert (err, status) == (b"", max(one.status for one in wanted))

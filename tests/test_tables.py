@@ -12,6 +12,7 @@ import pytest
 from helpers import tables
 from helpers.memory import refused, shim
 from helpers.program import TOP, Program, needs, program_of
+from helpers.random_collections import DAMAGE
 
 ROWS = json.loads((TOP / "tests/data/tables.json").read_text())
 # How many catalogues are damaged, in how many parts.
@@ -73,16 +74,15 @@ def damaged(rng, text):
     elif kind == 1:
         parts = re.findall(rb"[,;\t\n]|[^,;\t\n]+", text)
     else:
-        parts = [text[i:i + 1] for i in range(len(text))]
+        parts = [text[at:at + 1] for at in range(len(text))]
     size = 1 if kind < 4 else rng.randrange(1, 40)
     at = rng.randrange(len(parts))
     block = parts[at:at + size]
     rest = parts[:at] + parts[at + size:]
     to = rng.randrange(len(rest) + 1)
-    new = rng.choice((b",", b";", b'"', b"\n", b"\r", b" ", b"0", b"E", b"-", b"\xc3", b"\0"))
     return b"".join(rng.choice((
         rest, parts[:at] + block + parts[at:], rest[:to] + block + rest[to:],
-        parts[:at] + [new] + parts[at + size:])))
+        parts[:at] + [rng.choice(DAMAGE)] + parts[at + size:])))
 
 
 @pytest.mark.slow
@@ -151,8 +151,8 @@ def test_each_allocation_is_refused(pytestconfig, tmp_path):
         told = said.out.decode().splitlines()
         if said.status:
             # the program itself had no memory, and wrote at most what was read before
-            assert all(a in (b, "memory") for a, b in zip(told, right))
+            assert all(line in (whole, "memory") for line, whole in zip(told, right))
             continue
-        assert all(a in (b, "memory") for a, b in zip(told, right, strict=True))
+        assert all(line in (whole, "memory") for line, whole in zip(told, right, strict=True))
         seen |= set(told)
     assert "memory" in seen

@@ -262,13 +262,6 @@ class Asked(Command):
                            self.names[1], large, limit=least() + 100_000)
             self.assertEqual(said, (b"", f"vicinity: out of memory: {large}\n".encode(), 4))
 
-    def test_standard_error_that_takes_nothing(self):
-        words = "collection", "--csv", self.catalogue("uid\nE0040100000000A1\n")
-        for redirected in ("2>&-", "2>/dev/full"):
-            for name, status in ((self.names[1], 0), ("/nowhere", 4)):
-                said, errors, ended = command(*words, name, redirected=redirected)
-                self.assertEqual((bool(said), errors, ended), (not status, b"", status))
-
 
 class Doubts(Command):
     """What is said of a catalogue of which nothing is refused, beside an answer that stays."""

@@ -384,8 +384,7 @@ def written(command, words, read, survey):
     files = [(name, read(name)) for name in named(words)]
     if command == "survey":
         logs = [survey(*one) for one in files]
-        statuses = {"p": 0, "i": 2, "r": 3}
-        return surveys.written(logs), b"", max(statuses[log.field[0]] for log in logs)
+        return surveys.written(logs), b"", max(log.status for log in logs)
     collection = gathered(files, survey)
     if command == "reconcile":
         return as_lines(collection)

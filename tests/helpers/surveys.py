@@ -16,6 +16,8 @@ from helpers.reports import Report, known_of
 MAX_LINE, MAX_NUMBER, MAX_NAME = 1_000_001, 999_999, 4096
 NUMBER = rb"(0|[1-9][0-9]*)"
 MASK = NUMBER + rb" (-|[0-9A-F]+)"
+# What `vicinity survey` ends with, by the first word of what a log says.
+STATUSES = {"possible": 0, "impossible": 2, "refused": 3}
 
 
 class Survey(NamedTuple):
@@ -33,6 +35,10 @@ class Survey(NamedTuple):
     @property
     def is_possible(self):
         return self.field == "possible"
+
+    @property
+    def status(self):
+        return STATUSES[self.field.split()[0]]
 
 
 class Fault(Exception):
@@ -89,6 +95,13 @@ def of(name, text):
     masks = [mask for mask in greatest(known.possible) if not certain_in(mask, certain)]
     return Survey(name, "possible", sum(map(is_answer, lines)), certain, masks, margin,
                   tuple(weakest), first_more(hidden(lines), known), first_more(deaf(lines), known))
+
+
+def is_right(told, wanted):
+    """Whether a survey says what it has to; of several lines that show a UID one was chosen."""
+    return told._replace(certain=set(told.certain)) == wanted._replace(
+        certain=set(wanted.certain)) and all(
+            told.certain[uid][0] in lines for uid, lines in wanted.certain.items())
 
 
 # Its text.
@@ -190,15 +203,18 @@ class Reader:
         return field.decode() if not digits or number(digits, MAX_LINE, 1) else None
 
     def possible(self):
-        answers = self.must(rb"answers " + NUMBER, lambda n: number(n, MAX_NUMBER))
+        answers = self.must(rb"answers " + NUMBER, self.number)
         certain = self.each(rb"certain (E0[0-9A-F]{14}) by line " + NUMBER, self.certain)
         masks = self.each(rb"open " + MASK, self.open)
-        margin = self.must(rb"margin " + NUMBER, lambda n: number(n, MAX_NUMBER))
+        margin = self.must(rb"margin " + NUMBER, self.number)
         weakest = self.must(rb"weakest " + MASK, mask_read)
         more = [self.must(word + rb" (?:-|%s)" % MASK, self.mask_or_none)
                 for word in (b"hidden", b"deaf")]
         return (answers, {uid: (line,) for uid, line in certain}, [mask for mask, in masks],
                 margin, weakest, *(mask or None for mask in more))
+
+    def number(self, digits):
+        return number(digits, MAX_NUMBER)
 
     def open(self, length, digits):
         mask = mask_read(length, digits)
