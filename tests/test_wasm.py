@@ -9,7 +9,7 @@ import re
 import pytest
 from vicinity._native import AnswerStruct, WeakestStruct
 
-from helpers.library import CALLS, LISTING, U32, WRITING, run_of, uids
+from helpers.library import CALLS, LISTING, U32, WRITING, run_arguments, uids
 from helpers.lines import log_of
 from helpers.program import MAKE, TOP, Program, told
 from helpers.texts import texts as all_texts
@@ -201,6 +201,6 @@ def test_each_growth_is_refused(growing, names):
     for name in "check_listed", "margin_listed":
         growing.refuse_each(name, beside, listed)
     growing.refuse_each("simulate", log_of("I1 QA I1 UA UB"))
-    growing.refuse_each("run", *run_of("report", [log_of(names)]))
-    reconciled = run_of("reconcile", [log_of("UA UB"), log_of(names)], [b"EXPECTED", b"a"])
+    growing.refuse_each("run", *run_arguments("report", [log_of(names)]))
+    reconciled = run_arguments("reconcile", [log_of("UA UB"), log_of(names)], [b"EXPECTED", b"a"])
     growing.refuse_each("run", *reconciled, or_right=True)

@@ -8,7 +8,7 @@ from helpers import surveys
 from helpers.air import (FIELD_CYCLE, SILENT, Ask, Reply, StayQuiet, as_mask, lies_in,
                          slot_mask)
 from helpers.collections import kind_of
-from helpers.random_logs import eight_uids, log_text, opening, outcome, request, weaker
+from helpers.random_logs import eight_uids, log_text, outcome, request, weaker
 
 NAMES = ["a.log", "b.log", "C5.log", "x/a.log", "x/C5", "y/a.txt", "b", "d\\b.log", ".c", "c.5.log",
          "Gr\u00f6\u00dfe.log", 'q"1".log', "e;f, g.log", " h.log", "i.log ", "\u66f8\u67b6 3.log"]
@@ -234,40 +234,3 @@ def changed_texts(rng, number):
     for _ in range(number):
         text = spliced(rng, texts)
         yield sealed_anew(text) if rng.random() < 0.7 else text
-
-
-# Small worlds, of which every family of populations can be tried.
-
-class World(NamedTuple):
-    """Eight UIDs, of which all tags are, the lines of each log, and the items: of each its UID or
-    none, its place or none, and whether it is away."""
-    uids: list
-    lines: dict
-    items: list
-    case: Case
-
-
-def world_of(rng):
-    """Up to three logs of the same eight UIDs, and a catalogue that is mostly right."""
-    uids, errors = eight_uids(rng), rng.choice((0, 0, 0.1, 0.3))
-    names = rng.sample(["a.log", "b.log", "x/c.log"], rng.randint(1, 3))
-    lines, files, there = {}, {}, {}
-    for name in names:
-        there[name] = {uid for uid in uids if rng.random() < 0.4}
-        version = rng.randint(1, 3)
-        lines[name] = opening(rng, version, uids)[0] + search(rng, version, uids, there[name])
-        if rng.random() < errors:
-            lines[name] = spoiled(rng, version, uids, lines[name])
-        files[name] = log_text(version, lines[name])
-    items = [item_of(rng, uid, [name for name in names if uid in there[name]], names, errors)
-             for uid in uids if rng.random() < errors / 3 or any(uid in it for it in there.values())
-             and rng.random() >= errors / 3]
-    rows = [[f"{uid:016X}", place or "any", "away" if away else ""] for uid, place, away in items]
-    files["K"] = as_table(rng, ["uid", "place", "away"], rows or [["none", "any", ""]])
-    return World(uids, lines, items, Case(files, ["K", *names]))
-
-
-def item_of(rng, uid, where, names, errors):
-    name = rng.choice(names if rng.random() < errors or not where else where)
-    place = rng.choice((name[-5], name[-5], name[-5], None))
-    return uid, place, rng.random() < (errors / 2 if where else 0.8)
