@@ -12,8 +12,8 @@ let module;
 let loading;
 let isAsked = false;
 
-/** How often a small log is judged before anything is asked: a browser compiles well only what has run often. */
-const WARMING = 60;
+/** How often a log is judged before anything is asked, and how often it has the rounds of a small one: a browser compiles well only what ran long. */
+const WARMING = 20, FIELDS = 400;
 
 /** None where no library runs. */
 const load = () => unpacked(module).then(Library.of).catch(() => null);
@@ -31,8 +31,9 @@ function why(error) {
 
 /** @param {Uint8Array} sample */
 async function warm(sample) {
-  const library = await loading;
-  for (let left = WARMING; library && left && !isAsked; left--) tell(await judge(library, sample, ""), sample);
+  const library = await loading, rounds = new TextDecoder().decode(sample).replace(/^[vU].*\n/gm, "");
+  const long = new TextEncoder().encode(`vicinity-log 3\n${`F\n${rounds}`.repeat(FIELDS)}`);
+  for (let left = WARMING; library && left && !isAsked; left--) tell(await judge(library, long, ""), long);
 }
 
 onmessage = async ({ data: { id, ...data } }) => {

@@ -146,14 +146,29 @@ class Asked(Command):
         self.assertNotRegex(said, "<[bi]>|\33")
 
     def test_of_many_logs_the_first_stand_in_the_page(self):
-        """Those before that have to be counted again."""
+        """Those before that have to be counted again. Of the others stands what they rule out of
+        their own lists."""
         names = [self.write(name, log(lines)) for name, lines in (
             ("a", ALL + HEARD_A), ("large", b"# .\n" * 999_000 + ALL + HEARD_A),
-            ("more", b"# .\n" * 999_000 + ALL + HEARD_A), ("open", b""))]
+            ("more", b"# .\n" * 999_000 + ALL + b"S\n" + LIST_A), ("open", b""))]
         told = drawn_in(within("collection", "--page", self.catalogue("uid\nnone\n"),
                                *names)[0].decode())[0]
         self.assertEqual([it.get("object", {}).get("file") for it in told["logs"]],
                          ["a", "large", None, "open"])
+        self.assertEqual([it.get("denied") for it in told["logs"]],
+                         [None, None, ["E0040100000000A1"], None])
+
+    def test_a_log_in_a_text_of_surveys_is_as_old_as_this(self):
+        """Whatever file has the name of the log, even if it is the text of surveys itself."""
+        catalogue, name = self.catalogue("uid\nE0040100000000A1\n"), self.write("a.log", NOTHING)
+        survey = vicinity.survey(log(ALL + HEARD_A), name).text
+        for surveys in (self.write("old.surveys", survey), self.write("a.log", survey)):
+            os.utime(surveys, (15693, 15693))
+            said, errors, status = within("collection", "--page", catalogue, surveys)
+            self.assertEqual((errors, status), (b"", 0))
+            drawn = drawn_in(said.decode())[0]["logs"]
+            self.assertEqual([(it["name"], it["changed"], it.keys() & {"sha256", "object"})
+                              for it in drawn], [(name, 15693_000, set())])
 
     def test_a_log_that_changes_meanwhile(self):
         """What is said of the first is never said beside the second."""

@@ -19,7 +19,7 @@ use Rattle.vic_collection.specs.declared.state.State.TheVariants.{Doubtful, Abse
 use Rattle.vic_collection.specs.declared.unlisted.UnlistedUid.{UnlistedUid}
 use Rattle.vic_collection.specs.Against.{AreFindingsAgainst, HaveUids, IsAbsent, IsDoubtful, IsFirstLogWith, IsFirstTold, IsLogWith, IsShownIn, IsUndecided, IsUndecidedIn, IsUnlisted}
 use Rattle.vic_collection.specs.Against as against
-use Rattle.vic_collection.specs.Collections.{CollectionValue, is_certain_in, is_certain_somewhere, is_not_possible, is_number, is_of_item, is_possible_in, is_possible_somewhere, is_undecided_in, is_unlisted, positions_from, possible_logs, tells_nothing}
+use Rattle.vic_collection.specs.Collections.{CollectionValue, is_certain_in, is_certain_somewhere, is_not_possible, is_number, is_of_item, is_possible_in, is_possible_somewhere, is_undecided_in, is_unlisted, positions_from, undecided_logs, tells_nothing}
 use Rattle.vic_collection.specs.Findings.{AreFindings, AreOpenMasksOfSurvey, IsShownBy, IsShownFirst, IsUidIn, IsUnsettled, is_left_open}
 use Rattle.vic_collection.specs.States.{is_certain_at, is_looked_for, is_place_without_log, state_by}
 use Rattle.vic_collection.proofs.Families.{any_at, beside, certain_in_some, possible_in_some}
@@ -156,14 +156,14 @@ module _ (c : CollectionValue) (texts : List (List ℕ)) (says : AllZip IsSurvey
         shown = (text, first.0.1, shown_in text b.0.field (record { uid = x.uid; line = x.line }) b.2 (w.shown b.0 b.1));
       }
 
-  pub doubtful_first : (u : ℕ) → IsUndecided texts u → MatchOption (slice_get (possible_logs c u) 0) ⊥ (IsFirstLogWith (IsPossibleIn u) texts)
+  pub doubtful_first : (u : ℕ) → IsUndecided texts u → MatchOption (slice_get (undecided_logs c u) 0) ⊥ (IsFirstLogWith (IsPossibleIn u) texts)
   doubtful_first u w = go (slice_get logs 0) (first_is_least (IsLogWith (IsPossibleIn u) texts) logs (list_as (IsLogWith (IsUndecidedIn u) texts) (IsLogWith (IsPossibleIn u) texts) logs (λ k. (
     (λ h. (h.0, h.1, h.2.0)),
     (λ h. (h.0, h.1, (h.2, λ here. w.1 ((certain_in_some texts u).1 (any_at (IsCertainIn u) texts k h.0 h.1 here))))),
   )) (positions_of texts c.surveys says (λ s. is_undecided_in s u) (IsUndecidedIn u) (λ text s v. undecided_in text s v u (is_uid_of texts u w.0)))))
     where
       logs : List ℕ
-      logs = possible_logs c u
+      logs = undecided_logs c u
 
       go : (o : Option ℕ) → MatchOption o (NoSuch (IsLogWith (IsPossibleIn u) texts)) (IsLeast (IsLogWith (IsPossibleIn u) texts)) → MatchOption o ⊥ (IsFirstLogWith (IsPossibleIn u) texts)
       go None none =

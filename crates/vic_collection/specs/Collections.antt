@@ -68,8 +68,8 @@ abbrev pub is_undecided_in : SurveyValue → ℕ → Bool
 is_undecided_in s u = is_possible_in s u && not (is_certain_in s u)
 
 -- the logs in which a UID is possible and not certain
-abbrev pub possible_logs : CollectionValue → ℕ → List ℕ
-possible_logs c u = positions_from (λ s. is_undecided_in s u) 0 c.surveys
+abbrev pub undecided_logs : CollectionValue → ℕ → List ℕ
+undecided_logs c u = positions_from (λ s. is_undecided_in s u) 0 c.surveys
 
 -- the logs that some rows have for a UID
 abbrev pub logs_in : List LogOfUid → ℕ → List ℕ

@@ -20,7 +20,7 @@ ghost use Rattle.vic_table.specs.Values.{ItemValue};
 ghost use Rattle.vic_collection.specs.Against as against;
 ghost use Rattle.vic_collection.specs.Against.{Agree, AgreeWithReport, AreFindingsAgainst, AreOfNoPlace, AreUids, HaveUids, IsDoubtful, IsFirstLogWith, IsLogWith, IsUndecidedIn, IsWhole};
 ghost use Rattle.vic_collection.specs.Answers.{IsAnswer};
-ghost use Rattle.vic_collection.specs.Collections.{CollectionValue, certain_logs, is_certain_in, is_certain_somewhere, is_of_item, is_possible_in, is_possible_somewhere, possible_logs};
+ghost use Rattle.vic_collection.specs.Collections.{CollectionValue, certain_logs, is_certain_in, is_certain_somewhere, is_of_item, is_possible_in, is_possible_somewhere, undecided_logs};
 ghost use Rattle.vic_collection.specs.Complete.{IsComplete, IsSurveyOf};
 ghost use Rattle.vic_collection.specs.Families.{IsCertainIn, IsCertainUid, IsPossibleIn, IsPossibleUid};
 ghost use Rattle.vic_collection.specs.Findings.{AreFindings, AreOpenMasksOfSurvey};
@@ -100,9 +100,9 @@ pub fn surveys_say_what_logs_say()
     ensures certain_logs { (c : CollectionValue) (texts : List (List ℕ)) (u : ℕ)
         → AllZip IsSurveyOf texts c.surveys
         → IsListOf (IsLogWith (IsCertainIn u) texts) (certain_logs c u) }
-    ensures possible_logs { (c : CollectionValue) (texts : List (List ℕ)) (u : ℕ)
+    ensures undecided_logs { (c : CollectionValue) (texts : List (List ℕ)) (u : ℕ)
         → AllZip IsSurveyOf texts c.surveys → IsUid u
-        → IsListOf (IsLogWith (IsUndecidedIn u) texts) (possible_logs c u) }
+        → IsListOf (IsLogWith (IsUndecidedIn u) texts) (undecided_logs c u) }
 {}
 
 /// The findings of a collection are those of its logs, over all families that may have been in
@@ -113,7 +113,7 @@ pub fn findings_are_of_logs()
         → AreFindingsAgainst (is_looked_for c) (is_of_item c) texts f }
     ensures doubtful_first { (c : CollectionValue) (texts : List (List ℕ)) (u : ℕ)
         → AllZip IsSurveyOf texts c.surveys → IsDoubtful (is_of_item c) texts u
-        → MatchOption (slice_get (possible_logs c u) 0) ⊥
+        → MatchOption (slice_get (undecided_logs c u) 0) ⊥
         (IsFirstLogWith (IsPossibleIn u) texts) }
     ensures open_masks { (c : CollectionValue) (texts : List (List ℕ)) (text : List ℕ)
         (s : SurveyValue) (o : OpenMasks) → AllZip IsSurveyOf texts c.surveys

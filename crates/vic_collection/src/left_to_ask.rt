@@ -5,7 +5,7 @@ ghost use Rattle.std.specs.List.{AllZip};
 ghost use Rattle.vic_collection.specs.Findings.{AreOpenMasksOfSurvey};
 
 use crate::collection::Collection;
-use crate::possible_logs::undecided_set;
+use crate::undecided_logs::undecided_set;
 use std::alloc::{AllocError, Global};
 use vic_tree::{OpenMasks, SpacedKeys};
 

@@ -17,10 +17,10 @@ mod joins;
 pub mod laws;
 mod left_to_ask;
 mod logs_by_uid;
-mod possible_logs;
 mod state;
 mod told;
 mod uids;
+mod undecided_logs;
 mod unlisted;
 mod without_log;
 

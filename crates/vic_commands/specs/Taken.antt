@@ -7,9 +7,9 @@ use Rattle.vic_operands.specs.Taken.{HasTaken, HasTakenToReconcile}
 use Rattle.vic_operands.specs.declared.operands.Operands.{Operands}
 use Rattle.vic_commands.specs.Collected.{AreFiles}
 use Rattle.vic_commands.specs.Surveyed.{AreSurveyed}
-use Rattle.vic_commands.specs.declared.collected.ForLines.{ForLines}
-use Rattle.vic_commands.specs.declared.collected.ForObject.{ForObject}
-use Rattle.vic_commands.specs.declared.collected.ForTable.{ForTable}
+use Rattle.vic_commands.specs.declared.collected.TakenForLines.{TakenForLines}
+use Rattle.vic_commands.specs.declared.collected.TakenForObject.{TakenForObject}
+use Rattle.vic_commands.specs.declared.collected.TakenForTable.{TakenForTable}
 use Rattle.vic_commands.specs.declared.surveyed.TakenLogs.{TakenLogs}
 use Rattle.vic_commands.specs.declared.surveyed.TakenLogs.TheVariants.{Surveyed, Unnamed}
 
@@ -24,13 +24,13 @@ HasTakenFiles names texts operands =
     (files : List File) × AreFiles names texts files × HasTaken files operands
 
 -- by `collection`, and by `json-collection`
-abbrev pub HasTakenForTable : List (List ℕ) → List (List ℕ) → ForTable → Type 0
+abbrev pub HasTakenForTable : List (List ℕ) → List (List ℕ) → TakenForTable → Type 0
 HasTakenForTable names texts taken = HasTakenFiles names texts taken.operands
 
-abbrev pub HasTakenForObject : List (List ℕ) → List (List ℕ) → ForObject → Type 0
+abbrev pub HasTakenForObject : List (List ℕ) → List (List ℕ) → TakenForObject → Type 0
 HasTakenForObject names texts taken = HasTakenFiles names texts taken.operands
 
 -- and by `reconcile`
-abbrev pub HasTakenForLines : List (List ℕ) → List (List ℕ) → ForLines → Type 0
+abbrev pub HasTakenForLines : List (List ℕ) → List (List ℕ) → TakenForLines → Type 0
 HasTakenForLines names texts taken =
     (files : List File) × AreFiles names texts files × HasTakenToReconcile files taken.operands

@@ -28,35 +28,35 @@ pub enum Form {
 
 /// What `collection` knows of the files that it has taken.
 #[derive(Drop)]
-pub struct ForTable {
+pub struct TakenForTable {
     pub(crate) operands: Operands,
 }
 
 /// What `json-collection` knows of the files that it has taken.
 #[derive(Drop)]
-pub struct ForObject {
+pub struct TakenForObject {
     pub(crate) operands: Operands,
 }
 
 /// What `reconcile` knows of the files that it has taken.
 #[derive(Drop)]
-pub struct ForLines {
+pub struct TakenForLines {
     pub(crate) operands: ReconcileOperands,
 }
 
-impl Gather for ForTable {
+impl Gather for TakenForTable {
     ghost Writes = { spec.IsCollectionRun };
 
     ghost HasTaken = { HasTakenForTable };
 
-    fn begin(alloc: Global) -> ForTable {
+    fn begin(alloc: Global) -> TakenForTable {
         let operands = Operands::begin(alloc);
-        ForTable { operands }
+        TakenForTable { operands }
     }
 
-    fn add(self, alloc: Global, name: &str, text: Vec<u8>) -> Result<ForTable, AllocError> {
+    fn add(self, alloc: Global, name: &str, text: Vec<u8>) -> Result<TakenForTable, AllocError> {
         let operands = with_file(alloc, self.operands, name, text)?;
-        Ok(ForTable { operands })
+        Ok(TakenForTable { operands })
     }
 
     fn finish(self, alloc: Global) -> Result<Output, AllocError> {
@@ -64,19 +64,19 @@ impl Gather for ForTable {
     }
 }
 
-impl Gather for ForObject {
+impl Gather for TakenForObject {
     ghost Writes = { spec.IsJsonCollectionRun };
 
     ghost HasTaken = { HasTakenForObject };
 
-    fn begin(alloc: Global) -> ForObject {
+    fn begin(alloc: Global) -> TakenForObject {
         let operands = Operands::begin(alloc);
-        ForObject { operands }
+        TakenForObject { operands }
     }
 
-    fn add(self, alloc: Global, name: &str, text: Vec<u8>) -> Result<ForObject, AllocError> {
+    fn add(self, alloc: Global, name: &str, text: Vec<u8>) -> Result<TakenForObject, AllocError> {
         let operands = with_file(alloc, self.operands, name, text)?;
-        Ok(ForObject { operands })
+        Ok(TakenForObject { operands })
     }
 
     fn finish(self, alloc: Global) -> Result<Output, AllocError> {
@@ -84,20 +84,20 @@ impl Gather for ForObject {
     }
 }
 
-impl Gather for ForLines {
+impl Gather for TakenForLines {
     ghost Writes = { spec.IsReconcileRun };
 
     ghost HasTaken = { HasTakenForLines };
 
-    fn begin(_alloc: Global) -> ForLines {
-        ForLines {
+    fn begin(_alloc: Global) -> TakenForLines {
+        TakenForLines {
             operands: ReconcileOperands::begin(),
         }
     }
 
-    fn add(self, alloc: Global, name: &str, text: Vec<u8>) -> Result<ForLines, AllocError> {
+    fn add(self, alloc: Global, name: &str, text: Vec<u8>) -> Result<TakenForLines, AllocError> {
         let operands = self.operands.add(alloc, name, text)?;
-        Ok(ForLines { operands })
+        Ok(TakenForLines { operands })
     }
 
     fn finish(self, alloc: Global) -> Result<Output, AllocError> {

@@ -10,7 +10,7 @@ pub mod laws;
 mod surveyed;
 mod texts;
 
-pub use collected::{ForLines, ForObject, ForTable, Form};
+pub use collected::{Form, TakenForLines, TakenForObject, TakenForTable};
 pub use commands::{Command, Output};
 pub use gathering::Gather;
 pub use surveyed::TakenLogs;

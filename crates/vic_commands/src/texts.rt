@@ -8,7 +8,7 @@ ghost use Rattle.vic_answer.specs.SimulateText.{IsSimulationOf};
 ghost use Rattle.vic_object.specs.Object.{IsJsonOf};
 ghost use Rattle.vic_commands.specs.Commands as spec;
 
-use crate::collected::{ForLines, ForObject, ForTable};
+use crate::collected::{TakenForLines, TakenForObject, TakenForTable};
 use crate::commands::{Command, Output};
 use crate::gathering::Gather;
 use crate::surveyed::TakenLogs;
@@ -39,13 +39,13 @@ pub fn output_of(
         Command::Report => output_of_log::<LogReport>(alloc, texts),
         Command::Margin => output_of_log::<Margin>(alloc, texts),
         Command::Simulate => output_of_simulate(alloc, texts),
-        Command::Reconcile => output_over_files::<ForLines>(alloc, names, texts),
+        Command::Reconcile => output_over_files::<TakenForLines>(alloc, names, texts),
         Command::Frame => output_of_frame(alloc, texts),
         Command::Spell => output_of_spell(alloc, texts),
         Command::Survey => output_over_files::<TakenLogs>(alloc, names, texts),
-        Command::Collection => output_over_files::<ForTable>(alloc, names, texts),
+        Command::Collection => output_over_files::<TakenForTable>(alloc, names, texts),
         Command::Json => output_of_json(alloc, texts),
-        Command::JsonCollection => output_over_files::<ForObject>(alloc, names, texts),
+        Command::JsonCollection => output_over_files::<TakenForObject>(alloc, names, texts),
     }
 }
 

@@ -13,7 +13,7 @@ use crate::no_answer::{NoAnswer, end_of_run};
 use crate::single::run_json;
 use std::alloc::Global;
 use vic_answer::{Status, Task, do_task};
-use vic_commands::{ForLines, ForObject, ForTable, TakenLogs};
+use vic_commands::{TakenForLines, TakenForObject, TakenForTable, TakenLogs};
 use vic_log::{Sink, Source};
 use vic_words::{Asked, FilesCommand};
 
@@ -88,11 +88,15 @@ fn run_files_command<'a, F: Files, O: Sink>(
         output.old output.new (end_of result) }
 {
     match command {
-        FilesCommand::Reconcile => run_over_each::<ForLines, F, O>(alloc, files, names, output),
+        FilesCommand::Reconcile => run_over_each::<TakenForLines, F, O>(
+            alloc, files, names, output,
+        ),
         FilesCommand::Survey => run_over_each::<TakenLogs, F, O>(alloc, files, names, output),
-        FilesCommand::Collection => run_over_each::<ForTable, F, O>(alloc, files, names, output),
+        FilesCommand::Collection => run_over_each::<TakenForTable, F, O>(
+            alloc, files, names, output,
+        ),
         FilesCommand::JsonCollection => {
-            run_over_each::<ForObject, F, O>(alloc, files, names, output)
+            run_over_each::<TakenForObject, F, O>(alloc, files, names, output)
         }
     }
 }

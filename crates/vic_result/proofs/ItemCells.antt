@@ -10,16 +10,16 @@ use Rattle.std.proofs.lemmas.Option.{slice_get-map}
 use Rattle.vic_table.specs.Values.{ItemValue}
 use Rattle.vic_collection.specs.States.{state_of}
 use Rattle.vic_collection.specs.declared.state.State.{State}
-use Rattle.vic_collection.specs.Collections.{CollectionValue, certain_logs, is_certain_in, is_certain_somewhere, is_named, is_unlisted, is_number, is_of_item, is_undecided_in, possible_logs}
+use Rattle.vic_collection.specs.Collections.{CollectionValue, certain_logs, is_certain_in, is_certain_somewhere, is_named, is_unlisted, is_number, is_of_item, is_undecided_in, undecided_logs}
 use Rattle.vic_result.specs.ResultCells.{names_text}
 use Rattle.vic_result.specs.ResultTable.{cells_by, logs_by, uid_cells}
 use Rattle.vic_result.specs.NamesAt.{names_at}
 use Rattle.vic_result.proofs.NamedLogs.{names_at-positions}
 
-pub uid_cells-at : (c : CollectionValue) (state : List ℕ) (u : ℕ) → (state ∷ names_text (names_at c.surveys (certain_logs c u)) ∷ names_text (names_at c.surveys (possible_logs c u)) ∷ []) ≡ uid_cells c state u
+pub uid_cells-at : (c : CollectionValue) (state : List ℕ) (u : ℕ) → (state ∷ names_text (names_at c.surveys (certain_logs c u)) ∷ names_text (names_at c.surveys (undecided_logs c u)) ∷ []) ≡ uid_cells c state u
 uid_cells-at c state u = rw (names_at-positions (λ s. is_certain_in s u) c.surveys, names_at-positions (λ s. is_undecided_in s u) c.surveys) refl
 
-pub cells_by-at : (c : CollectionValue) (state : List ℕ) (o : Option ℕ) → (state ∷ names_text (names_at c.surveys (logs_by (certain_logs c) o)) ∷ names_text (names_at c.surveys (logs_by (possible_logs c) o)) ∷ []) ≡ cells_by c state o
+pub cells_by-at : (c : CollectionValue) (state : List ℕ) (o : Option ℕ) → (state ∷ names_text (names_at c.surveys (logs_by (certain_logs c) o)) ∷ names_text (names_at c.surveys (logs_by (undecided_logs c) o)) ∷ []) ≡ cells_by c state o
 cells_by-at c state None = refl
 cells_by-at c state (Some u) = uid_cells-at c state u
 

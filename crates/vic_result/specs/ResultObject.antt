@@ -14,7 +14,7 @@ use Rattle.vic_survey.specs.declared.survey.SurveyedField.TheVariants.{Refused, 
 use Rattle.vic_survey.specs.declared.survey.FieldFacts.{FieldFacts}
 use Rattle.vic_table.specs.Cells.{cells_of}
 use Rattle.vic_table.specs.Values.{ItemValue}
-use Rattle.vic_collection.specs.Collections.{CollectionValue, certain_logs, possible_logs}
+use Rattle.vic_collection.specs.Collections.{CollectionValue, certain_logs, undecided_logs}
 use Rattle.vic_collection.specs.Answers.{IsAnswer}
 use Rattle.vic_collection.specs.Findings.{AreFindings, AreOpenMasksOfSurvey}
 use Rattle.vic_collection.specs.Joins.{is_left_over, place_of_log, places_without_log}
@@ -71,12 +71,12 @@ item_json separator item state certain possible =
 
 abbrev pub item_of_json : CollectionValue → ItemValue → List ℕ
 item_of_json c item = item_json (separator_of c) item (state_name (state_of c item))
-    (logs_by (certain_logs c) item.uid) (logs_by (possible_logs c) item.uid)
+    (logs_by (certain_logs c) item.uid) (logs_by (undecided_logs c) item.uid)
 
 -- a UID of no item, with a line of the first log in which it is certain
 abbrev pub unlisted_uid_json : CollectionValue → ℕ → ℕ → List ℕ
 unlisted_uid_json c u line =
-    codes "{\"uid\":" ++ json_uid u ++ logs_json (certain_logs c u) (possible_logs c u)
+    codes "{\"uid\":" ++ json_uid u ++ logs_json (certain_logs c u) (undecided_logs c u)
     ++ codes ",\"line\":" ++ decimal line ++ codes "}"
 
 -- ---- how many items are in each state, and how many UIDs are unlisted

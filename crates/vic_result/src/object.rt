@@ -99,7 +99,7 @@ pub fn object_text(alloc: Global, collection: &Collection) -> Result<ResultText,
 {
     let findings = collection.findings(alloc)?;
     let answer = findings.answer();
-    let possible = collection.possible_logs(alloc)?;
+    let possible = collection.undecided_logs(alloc)?;
     let states = findings.states.as_slice();
     let masks = collection.open_masks(alloc)?;
     let status = answer_status(collection, &answer);

@@ -30,7 +30,7 @@ pub fn table_text(alloc: Global, collection: &Collection) -> Result<ResultText, 
     ensures status { IfOk result (λ r. IsAnswerStatus collection.now r.status) }
 {
     let findings = collection.findings(alloc)?;
-    let possible = collection.possible_logs(alloc)?;
+    let possible = collection.undecided_logs(alloc)?;
     let states = findings.states.as_slice();
     let unlisted = findings.unlisted.as_slice();
     let text = table_with(alloc, collection, &possible, states, unlisted)?;

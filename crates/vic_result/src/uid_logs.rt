@@ -1,7 +1,7 @@
 //! In which logs a UID is.
 
 ghost use Rattle.std.specs.Prelude.{◌≡◌, ◌<◌, true, IsSomeAnd, length, slice_get};
-ghost use Rattle.vic_collection.specs.Collections.{certain_logs, is_named, possible_logs};
+ghost use Rattle.vic_collection.specs.Collections.{certain_logs, is_named, undecided_logs};
 ghost use Rattle.vic_result.specs.ResultTable.{logs_by};
 ghost use Rattle.vic_result.specs.inner.ItemLogs.{ArePossibleLogs};
 
@@ -25,7 +25,7 @@ pub(crate) fn logs_of_uid<'a>(
     requires possible { ArePossibleLogs collection.now possible.now }
     requires named { is_named collection.now uid ≡ true }
     ensures certain { result.certain.now ≡ certain_logs collection.now uid }
-    ensures possible { result.possible.now ≡ possible_logs collection.now uid }
+    ensures possible { result.possible.now ≡ undecided_logs collection.now uid }
 {
     UidLogs {
         certain: collection.certain_in(uid),
@@ -44,7 +44,7 @@ pub(crate) fn logs_of_item<'a>(
     ensures certain { IsSomeAnd (slice_get collection.now.catalogue.items index) (λ item.
         result.certain.now ≡ logs_by (certain_logs collection.now) item.uid) }
     ensures possible { IsSomeAnd (slice_get collection.now.catalogue.items index) (λ item.
-        result.possible.now ≡ logs_by (possible_logs collection.now) item.uid) }
+        result.possible.now ≡ logs_by (undecided_logs collection.now) item.uid) }
 {
     match collection.catalogue().uid(index) {
         Some(uid) => logs_of_uid(collection, possible, uid),

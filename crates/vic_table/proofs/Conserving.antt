@@ -9,7 +9,7 @@ use Rattle.vic_table.specs.Columns.{separator_byte, are_of_catalogue, are_of_pla
 use Rattle.vic_table.specs.Conserved.{as_list, UidsAreConserved, IsInCell, IsInItem, told_uids}
 use Rattle.vic_table.specs.Contents.{hex_uid, hex_runs, is_blank, is_word, spelled_uid, tells_uid}
 use Rattle.vic_table.specs.Lines.{bytes_fault, table_lines}
-use Rattle.vic_table.specs.Rows.{cell_at, is_blank_line, is_no_uid, is_given, item_fault, item_of, item_line_fault, cells_item_fault, cells_item, item_uids}
+use Rattle.vic_table.specs.Rows.{cell_at, is_blank_line, is_wrong_uid, is_given, item_fault, item_of, item_line_fault, cells_item_fault, cells_item, item_uids}
 use Rattle.vic_table.specs.Table.{fault_of, line_fault, fault_by_columns, columns_named, item_on, items_upto, HasNoFault}
 use Rattle.vic_table.specs.Values.{ItemValue}
 use Rattle.vic_table.specs.declared.columns.CatalogueColumns.{CatalogueColumns}
@@ -180,7 +180,7 @@ module _ (c : CatalogueColumns) (lines : List (List ℕ)) (clean : HasNoFault li
       ∙ ap (λ xs. items_upto c lines (suc k) ++ xs) (ap (cells_item c (suc (suc k)) line) split ∙ cond-false (is_blank_line cells) [] (item_of c (suc (suc k)) line cells ∷ []) full)
 
   -- the row's own cell
-  own_cell : (cells : List (List ℕ)) (u : ℕ) → is_no_uid (cell_at cells c.uid) ≡ false → has (told_uids (cell_at cells c.uid)) u ≡ true → spelled_uid (cell_at cells c.uid) ≡ Some u
+  own_cell : (cells : List (List ℕ)) (u : ℕ) → is_wrong_uid (cell_at cells c.uid) ≡ false → has (told_uids (cell_at cells c.uid)) u ≡ true → spelled_uid (cell_at cells c.uid) ≡ Some u
   own_cell cells u right told = go (spelled_uid (cell_at cells c.uid)) refl where
     h : HasDigits (cell_at cells c.uid) u
     h = told_has (cell_at cells c.uid) u told
@@ -238,8 +238,8 @@ module _ (c : CatalogueColumns) (lines : List (List ℕ)) (clean : HasNoFault li
     own full =
         let none = row_clean k line cells at split full in
         let shape = (none_of_two (shape_fault c cells) (behind_shape c (item_uids (items_upto c lines (suc k))) cells) (sym (item_fault-parts c (item_uids (items_upto c lines (suc k))) cells) ∙ none)).0 in
-        let sized = if_none (not (length cells == c.count)) fault.Cells (if is_no_uid (cell_at cells c.uid) then Some fault.Uid else (if tells_elsewhere c cells then Some fault.UidElsewhere else None)) shape in
-        let uid_right = if_none (is_no_uid (cell_at cells c.uid)) fault.Uid (if tells_elsewhere c cells then Some fault.UidElsewhere else None) sized.1 in
+        let sized = if_none (not (length cells == c.count)) fault.Cells (if is_wrong_uid (cell_at cells c.uid) then Some fault.Uid else (if tells_elsewhere c cells then Some fault.UidElsewhere else None)) shape in
+        let uid_right = if_none (is_wrong_uid (cell_at cells c.uid)) fault.Uid (if tells_elsewhere c cells then Some fault.UidElsewhere else None) sized.1 in
         let else_right = if_none (tells_elsewhere c cells) fault.UidElsewhere None uid_right.1 in
         let here = elsewhere c cells j cell u else_right.0 there told in
         let same : cell ≡ cell_at cells c.uid = sym (get_or_from_slice_get cells j cell [] there) ∙ ap (λ i. get_or cells i []) here in

@@ -7,7 +7,7 @@ use Rattle.vic_table.specs.Cells.{cells_of}
 use Rattle.vic_table.specs.Columns.{separator_byte, tells_elsewhere}
 use Rattle.vic_table.specs.Contents.{spelled_uid}
 use Rattle.vic_table.specs.Lines.{bytes_fault}
-use Rattle.vic_table.specs.Rows.{cell_at, is_no_uid, is_given, is_blank_line, is_word_at, place_at, item_fault, item_of, item_line_fault, cells_item_fault, line_item, cells_item, item_uids}
+use Rattle.vic_table.specs.Rows.{cell_at, is_wrong_uid, is_given, is_blank_line, is_word_at, place_at, item_fault, item_of, item_line_fault, cells_item_fault, line_item, cells_item, item_uids}
 use Rattle.vic_table.specs.declared.columns.CatalogueColumns.{CatalogueColumns}
 use Rattle.vic_table.specs.declared.fault.TableLineFault.{TableLineFault}
 use Rattle.vic_table.specs.declared.fault.TableLineFault.TheVariants as fault
@@ -29,7 +29,7 @@ abbrev pub behind_shape : CatalogueColumns → List ℕ → List (List ℕ) → 
 behind_shape c before cells = if is_given before (spelled_uid (cell_at cells c.uid)) then Some fault.DuplicateUid else rest_fault c cells
 
 pub item_fault-parts : (c : CatalogueColumns) (before : List ℕ) (cells : List (List ℕ)) → item_fault c before cells ≡ option_or (shape_fault c cells) (behind_shape c before cells)
-item_fault-parts c before cells = in_parts (not (length cells == c.count)) (is_no_uid (cell_at cells c.uid)) (tells_elsewhere c cells) fault.Cells fault.Uid fault.UidElsewhere (behind_shape c before cells)
+item_fault-parts c before cells = in_parts (not (length cells == c.count)) (is_wrong_uid (cell_at cells c.uid)) (tells_elsewhere c cells) fault.Cells fault.Uid fault.UidElsewhere (behind_shape c before cells)
 
 pub item_fault-shape : (c : CatalogueColumns) (before : List ℕ) (cells : List (List ℕ)) (f : TableLineFault) → shape_fault c cells ≡ Some f → item_fault c before cells ≡ Some f
 item_fault-shape c before cells f e = item_fault-parts c before cells ∙ ap (λ o. option_or o (behind_shape c before cells)) e

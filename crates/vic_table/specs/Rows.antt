@@ -22,8 +22,8 @@ is_blank_line cells = list_all is_blank cells
 -- ---- a row of a catalogue
 
 -- the cell neither spells a UID nor is the word `none`
-abbrev pub is_no_uid : List ℕ → Bool
-is_no_uid cell = is_none (spelled_uid cell) && not (is_word (codes "none") cell)
+abbrev pub is_wrong_uid : List ℕ → Bool
+is_wrong_uid cell = is_none (spelled_uid cell) && not (is_word (codes "none") cell)
 
 -- the UID was given to a row before
 abbrev pub is_given : List ℕ → Option ℕ → Bool
@@ -40,20 +40,20 @@ is_word_at word cells None = false
 is_word_at word cells (Some i) = is_word word (cell_at cells i)
 
 -- the cell `away` is neither blank nor the word `away`
-abbrev pub is_no_away : List (List ℕ) → Option ℕ → Bool
-is_no_away cells None = false
-is_no_away cells (Some i) =
+abbrev pub is_wrong_away : List (List ℕ) → Option ℕ → Bool
+is_wrong_away cells None = false
+is_wrong_away cells (Some i) =
     not (is_blank (cell_at cells i)) && not (is_word (codes "away") (cell_at cells i))
 
 -- the first fault of a catalogue's row, after rows with these UIDs
 abbrev pub item_fault : CatalogueColumns → List ℕ → List (List ℕ) → Option TableLineFault
 item_fault c before cells =
     if not (length cells == c.count) then Some fault.Cells
-    else if is_no_uid (cell_at cells c.uid) then Some fault.Uid
+    else if is_wrong_uid (cell_at cells c.uid) then Some fault.Uid
     else if tells_elsewhere c cells then Some fault.UidElsewhere
     else if is_given before (spelled_uid (cell_at cells c.uid)) then Some fault.DuplicateUid
     else if is_blank_at cells c.place then Some fault.Place
-    else if is_no_away cells c.away then Some fault.Away
+    else if is_wrong_away cells c.away then Some fault.Away
     else None
 
 -- the place that a cell names: none if it is the word `any`

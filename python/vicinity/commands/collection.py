@@ -8,7 +8,7 @@ from hashlib import sha256
 from typing import Any, Iterator, Sequence
 
 from .._native import VERSION, library
-from .._objects import NOT_COMPLETE, Object, too_small
+from .._objects import NOT_COMPLETE, Object, object_of, too_small
 from .._process import (Arguments, NoAnswer, complain, names_of, read, read_log, shown,
                         tell_terminal, write)
 from .._run import Written, run
@@ -44,7 +44,7 @@ def collection(arguments: Arguments) -> int:
     """Writes what logs say of a catalogue, and returns the status."""
     library()
     form, wanted = arguments.form, arguments.margin
-    files = _read(names_of(arguments), arguments.jobs)
+    files, logs = _read(names_of(arguments), arguments.jobs)
     written, answer = _written(WRITES[form], files), dict[str, Any]()
     is_measured = wanted > 0 and written.status == 0
     is_shown = form == "lines" and os.isatty(2)
@@ -55,7 +55,7 @@ def collection(arguments: Arguments) -> int:
     if less:
         answer.update(status=NOT_COMPLETE, wanted=wanted)
     if form == "page" and answer:
-        write(_page(files, answer))
+        write(_page(files, logs, answer))
     elif form == "json" and less:
         write([json.dumps(answer, ensure_ascii=False, separators=(",", ":")), "\n"])
     else:
@@ -69,18 +69,20 @@ def collection(arguments: Arguments) -> int:
     return NOT_COMPLETE if less else written.status
 
 
-def _read(names: Sequence[str], jobs: int) -> Files:
-    """The texts of files, of logs their surveys. The library's calls run side by side."""
+def _read(names: Sequence[str], jobs: int) -> tuple[Files, set[str]]:
+    """The texts of files, of logs their surveys; and which of the files are logs. The library's
+    calls run side by side."""
     with ThreadPoolExecutor(jobs) as pool:
-        return list(zip(names, pool.map(_text, names) if jobs > 1 else map(_text, names)))
+        files = list(pool.map(_file, names) if jobs > 1 else map(_file, names))
+    return [file for file, _ in files], {name for (name, _), is_log in files if is_log}
 
 
-def _text(name: str) -> bytes:
-    """The text of a file, of a log its survey."""
+def _file(name: str) -> tuple[tuple[str, bytes], bool]:
+    """A file with its text, of a log its survey; and whether it is a log."""
     try:
         text = read(name)
         is_log = not text or text.startswith(LOG) and not text.startswith(SURVEYS)
-        return _written("survey", [(name, text)]).text if is_log else text
+        return (name, _written("survey", [(name, text)]).text if is_log else text), is_log
     except MemoryError:
         raise NoAnswer(f"out of memory: {shown(name)}") from None
 
@@ -108,24 +110,28 @@ def _less(answer: Object, wanted: int) -> str:
     return too_small(least, wanted, where)
 
 
-def _page(files: Files, found: Object) -> Iterator[str]:
+def _page(files: Files, logs: set[str], found: Object) -> Iterator[str]:
     """One HTML file that draws the object, with when each log's file was changed, and the texts of
-    logs, those first that have to be counted again."""
-    surveys, room, logs = dict(files), MOST_TEXT, {log["name"] for log in found["logs"]}
-    # of a log that is no file the oldest text of surveys may be the one that has it
+    logs, those first that have to be counted again. Some of the files are logs."""
+    surveys, room = dict(files), MOST_TEXT
+    # of a log in a text of surveys the oldest of these texts may be the one that has it
     ages = [age for name, text in files if text.startswith(SURVEYS) and name not in logs
             for age in _changed(name)]
     for log in sorted(found["logs"], key=lambda it: it["field"] == "possible" and not it["open"]):
         name, text = log["name"], b""
-        if os.path.isfile(name) and name in surveys:
+        if name in logs and os.path.isfile(name):
             text = read_log(name)
             if _written("survey", [(name, text)]).text != surveys[name]:
                 raise NoAnswer(f"{shown(name)} has changed since it was read first")
             log["sha256"] = sha256(text).hexdigest()
-        log.update([("changed", age) for age in _changed(name) or sorted(ages)[:1]])
+        log.update([("changed", age) for age in (
+            _changed(name) if name in logs else sorted(ages)[:1])])
         room -= len(text)
         if text and room >= 0:
             log["object"] = page_object(shown(os.path.basename(name)), JudgedLog(text))
+        elif text:
+            log["denied"] = [tag["uid"] for tag in object_of(text)["findings"]
+                             if tag["kind"] == "absent"]
     tables = _tables(files)
     name = shown(os.path.basename(next(name for name, text in tables if columns_of(text))))
     found.update(version=VERSION, file=name, files=[
@@ -154,11 +160,10 @@ def _notes(written: Written, answer: Object, is_shown: bool) -> Iterator[str]:
     if written.status == 0:
         yield HEARD
         yield from _sure(answer)
-    names = [log["name"] for log in answer["logs"]]
     yield from summary([
         *((item["place"] or "", item["state"]) for item in answer["items"]
           if item["state"] not in DONE),
-        *((names[tag["certain_in"][0]], "unexpected") for tag in answer["unexpected"])])
+        *((answer["logs"][tag["certain_in"][0]]["name"], "unexpected") for tag in answer["unexpected"])])
 
 
 def _sure(answer: Object) -> Iterator[str]:

@@ -81,6 +81,8 @@ class Rows:
 
     def __init__(self, text: bytes, refused: int = 0, named: Container[int] = ()):
         self.text, self._named = text, named
+        #: Whether its version has lines for field cycles.
+        self.has_cycles = not text.startswith(b"vicinity-log 1")
         #: Of each row, the number of its first line and where that is in the text.
         self.lines: array[int] = array("I")
         self._starts: array[int] = array("I")
@@ -136,11 +138,6 @@ class Rows:
     def advice(self, fault: str) -> Advice:
         """What the fault of the refused line means."""
         return advice(fault, "replies" if self.refused[:2] in (b"R ", b"H ") else "faults")
-
-    @property
-    def has_cycles(self) -> bool:
-        """Whether its version has lines for field cycles."""
-        return not self.text.startswith(b"vicinity-log 1")
 
     def ask(self, mask: Mask, slots: int = 1) -> str:
         """The line that asks a mask."""

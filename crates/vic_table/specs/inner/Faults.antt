@@ -1,7 +1,7 @@
 -- Why a line is refused, and the faults of an item's row in two parts.
 use Rattle.std.specs.Prelude.{◌≡◌, ℕ, ◌==◌, not, if◌then◌else◌, Option, Some, None, List, length, ⊤}
 use Rattle.vic_table.specs.Columns.{tells_elsewhere}
-use Rattle.vic_table.specs.Rows.{cell_at, is_no_uid, is_blank_at, is_no_away}
+use Rattle.vic_table.specs.Rows.{cell_at, is_wrong_uid, is_blank_at, is_wrong_away}
 use Rattle.vic_table.specs.declared.columns.CatalogueColumns.{CatalogueColumns}
 use Rattle.vic_table.specs.declared.fault.TableLineFault.{TableLineFault}
 use Rattle.vic_table.specs.declared.fault.TableLineFault.TheVariants as fault
@@ -18,7 +18,7 @@ RefusesAt number fault Memory = ⊤
 abbrev pub shape_fault : CatalogueColumns → List (List ℕ) → Option TableLineFault
 shape_fault c cells =
     if not (length cells == c.count) then Some fault.Cells
-    else if is_no_uid (cell_at cells c.uid) then Some fault.Uid
+    else if is_wrong_uid (cell_at cells c.uid) then Some fault.Uid
     else if tells_elsewhere c cells then Some fault.UidElsewhere
     else None
 
@@ -26,5 +26,5 @@ shape_fault c cells =
 abbrev pub rest_fault : CatalogueColumns → List (List ℕ) → Option TableLineFault
 rest_fault c cells =
     if is_blank_at cells c.place then Some fault.Place
-    else if is_no_away cells c.away then Some fault.Away
+    else if is_wrong_away cells c.away then Some fault.Away
     else None

@@ -11,5 +11,5 @@ returns c = record {
   certain = λ c texts u says. certain_somewhere texts c.surveys says u;
   possible = λ c texts u says is. possible_somewhere texts c.surveys says u is;
   certain_logs = λ c texts u says. positions_of texts c.surveys says (λ s. is_certain_in s u) (IsCertainIn u) (λ text s w. certain_in text s.field w u);
-  possible_logs = λ c texts u says is. positions_of texts c.surveys says (λ s. is_undecided_in s u) (IsUndecidedIn u) (λ text s w. undecided_in text s w u is);
+  undecided_logs = λ c texts u says is. positions_of texts c.surveys says (λ s. is_undecided_in s u) (IsUndecidedIn u) (λ text s w. undecided_in text s w u is);
 }

@@ -2,7 +2,7 @@ use Rattle.vic_result.proofs.Words.{◌≡◌, ◌∙◌, ◌++◌, ◌∷◌, [
 use Rattle.vic_survey.specs.Surveys.{SurveyValue}
 use Rattle.vic_table.specs.Columns.{separator_byte}
 use Rattle.vic_table.specs.Values.{CatalogueValue, ItemValue}
-use Rattle.vic_collection.specs.Collections.{certain_logs, possible_logs}
+use Rattle.vic_collection.specs.Collections.{certain_logs, undecided_logs}
 use Rattle.vic_collection.specs.States.{state_of}
 use Rattle.vic_result.specs.ResultCells.{cells_text, names_text}
 use Rattle.vic_result.specs.ResultTable.{cells_by, item_row, logs_by}
@@ -22,7 +22,7 @@ returns c =
     let item = found.0 in
     let state = state_there C c.args.states.now c.args.index item c.state_at-state.result c.requires.states found.1 c.state_at-state.ensures in
     let certain = some_at _ (λ (x : ItemValue). logs.certain.now ≡ logs_by (certain_logs C) x.uid) item found.1 c.logs_of_item-logs.ensures.certain in
-    let possible = some_at _ (λ (x : ItemValue). logs.possible.now ≡ logs_by (possible_logs C) x.uid) item found.1 c.logs_of_item-logs.ensures.possible in
+    let possible = some_at _ (λ (x : ItemValue). logs.possible.now ≡ logs_by (undecided_logs C) x.uid) item found.1 c.logs_of_item-logs.ensures.possible in
     let Pushed = λ (k : CatalogueValue) (surveys : List SurveyValue). IsSomeAnd (slice_get k.items c.args.index) (λ (x : ItemValue). c.push_item_row.new.text.items ≡ t ++ (x.row ++ cells_text (separator_byte k.columns.separator) (state_name c.state_at-state.result ∷ names_text (names_at surveys logs.certain.now) ∷ names_text (names_at surveys logs.possible.now) ∷ []) ++ k.head_end)) in
     let by_value : Pushed C.catalogue C.surveys = subst (Pushed C.catalogue) c.surveys-surveys.ensures (subst (λ (k : CatalogueValue). Pushed k c.surveys-surveys.result.now) c.catalogue-catalogue.ensures c.in_ok-push_item_row.ensures) in
     let pushed = some_at (slice_get C.catalogue.items c.args.index) (λ (x : ItemValue). c.push_item_row.new.text.items ≡ t ++ (x.row ++ cells_text separator (state_name c.state_at-state.result ∷ names_text (names_at C.surveys logs.certain.now) ∷ names_text (names_at C.surveys logs.possible.now) ∷ []) ++ C.catalogue.head_end)) item found.1 by_value in

@@ -1,6 +1,6 @@
 use Rattle.vic_result.proofs.Words.{◌≡◌, ◌∙◌, ap, sym}
 use Rattle.vic_table.specs.Values.{ItemValue}
-use Rattle.vic_collection.specs.Collections.{certain_logs, possible_logs}
+use Rattle.vic_collection.specs.Collections.{certain_logs, undecided_logs}
 use Rattle.vic_result.specs.ResultTable.{logs_by}
 use Rattle.vic_result.proofs.Elements.{item_at, some_and, some_at}
 use Rattle.vic_result.proofs.ItemCells.{item_named}
@@ -26,5 +26,5 @@ returns-in-Some-clause-possible c =
     let C = c.args.collection.now in
     let found = item_at C.catalogue.items c.args.index c.requires.bound in
     let uid = some_at _ (λ (item : ItemValue). c.uid.result ≡ item.uid) found.0 found.1 (rw c.catalogue.ensures at c.uid.ensures) in
-    some_and _ (λ (item : ItemValue). c.logs_of_uid.result.possible.now ≡ logs_by (possible_logs C) item.uid) found.0 found.1
-    (c.logs_of_uid.ensures.possible ∙ ap (logs_by (possible_logs C)) (sym c.in-Some.is ∙ uid))
+    some_and _ (λ (item : ItemValue). c.logs_of_uid.result.possible.now ≡ logs_by (undecided_logs C) item.uid) found.0 found.1
+    (c.logs_of_uid.ensures.possible ∙ ap (logs_by (undecided_logs C)) (sym c.in-Some.is ∙ uid))

@@ -1,7 +1,7 @@
 use Rattle.vic_result.proofs.Words.{◌≡◌, ◌∙◌, ◌++◌, ap, IsSomeAnd, refl, slice_get, subst}
 use Rattle.vic_table.specs.Columns.{separator_byte}
 use Rattle.vic_table.specs.Values.{CatalogueValue, ItemValue}
-use Rattle.vic_collection.specs.Collections.{certain_logs, possible_logs}
+use Rattle.vic_collection.specs.Collections.{certain_logs, undecided_logs}
 use Rattle.vic_result.specs.ResultObject.{item_json, item_of_json}
 use Rattle.vic_result.specs.ResultTable.{logs_by}
 use Rattle.vic_result.specs.StateNames.{state_name}
@@ -19,7 +19,7 @@ returns c =
     let item = found.0 in
     let state = state_there C c.args.states.now c.args.index item c.state_at-state.result c.requires.states found.1 c.state_at-state.ensures in
     let certain = some_at _ (λ (x : ItemValue). logs.certain.now ≡ logs_by (certain_logs C) x.uid) item found.1 c.logs_of_item-logs.ensures.certain in
-    let possible = some_at _ (λ (x : ItemValue). logs.possible.now ≡ logs_by (possible_logs C) x.uid) item found.1 c.logs_of_item-logs.ensures.possible in
+    let possible = some_at _ (λ (x : ItemValue). logs.possible.now ≡ logs_by (undecided_logs C) x.uid) item found.1 c.logs_of_item-logs.ensures.possible in
     let Pushed = λ (k : CatalogueValue). IsSomeAnd (slice_get k.items c.args.index) (λ (x : ItemValue). c.push_item.new.text.items ≡ t ++ item_json (separator_byte k.columns.separator) x (state_name c.state_at-state.result) logs.certain.now logs.possible.now) in
     let by_value : Pushed C.catalogue = subst Pushed c.catalogue.ensures c.in_ok-push_item.ensures in
     let pushed = some_at (slice_get C.catalogue.items c.args.index) (λ (x : ItemValue). c.push_item.new.text.items ≡ t ++ item_json separator x (state_name c.state_at-state.result) logs.certain.now logs.possible.now) item found.1 by_value in

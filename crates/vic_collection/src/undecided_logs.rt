@@ -9,7 +9,7 @@ ghost use Rattle.std.specs.List.Sorted.{IsStrictlyIncreasing};
 ghost use Rattle.vic_frame.specs.Uids.{IsUid, has};
 ghost use Rattle.vic_tree.specs.OpenSet.{SameUids};
 ghost use Rattle.vic_tree.specs.Ranges.{is_open_in};
-ghost use Rattle.vic_collection.specs.Collections.{is_named, is_undecided_in, logs_in, positions_from, possible_logs};
+ghost use Rattle.vic_collection.specs.Collections.{is_named, is_undecided_in, logs_in, positions_from, undecided_logs};
 
 use crate::collection::Collection;
 use crate::logs_by_uid::{LogOfUid, LogsByUid};
@@ -22,9 +22,9 @@ use vic_tree::{OpenSet, RangeSet, SortedKeys};
 impl Collection {
     /// For each UID that is of an item, or certain in some log, the logs in which it is possible
     /// and not certain, by their positions, in their order.
-    pub fn possible_logs(&self, alloc: Global) -> Result<LogsByUid, AllocError>
+    pub fn undecided_logs(&self, alloc: Global) -> Result<LogsByUid, AllocError>
         ensures { IfOk result (λ logs. (u : ℕ) → IsUid u → is_named self.now u ≡ true
-            → logs_in logs u ≡ possible_logs self.now u) }
+            → logs_in logs u ≡ undecided_logs self.now u) }
     {
         let uids = self.named_uids(alloc)?;
         let sets = undecided_sets(alloc, self.surveys())?;

@@ -3,7 +3,7 @@ use Rattle.vic_collection.specs.Collections.{logs_in}
 use Rattle.vic_collection.specs.declared.logs_by_uid.LogOfUid.{LogOfUid}
 use Rattle.vic_collection.proofs.Sighted.{logs_pushed}
 use Rattle.vic_collection.proofs.Telling.{logs_added}
-use Rattle.vic_collection.proofs.possible_logs.note_each.Goals as goal
+use Rattle.vic_collection.proofs.undecided_logs.note_each.Goals as goal
 
 pub loop-uid-preserved : goal.loop-uid-preserved
 loop-uid-preserved c = λ u.

@@ -7,7 +7,7 @@ use Rattle.std.proofs.lemmas.Result.{on_ok_weaker}
 use Rattle.vic_tree.specs.Ranges.{is_open_in}
 use Rattle.vic_collection.specs.Collections.{logs_in}
 use Rattle.vic_collection.proofs.Halves.{noted, noted_both, noted_inside, noted_one}
-use Rattle.vic_collection.proofs.possible_logs.+note.Goals as goal
+use Rattle.vic_collection.proofs.undecided_logs.+note.Goals as goal
 
 pub note_each-requires : goal.note_each-requires
 note_each-requires t c =
