@@ -160,10 +160,10 @@ def _notes(written: Written, answer: Object, is_shown: bool) -> Iterator[str]:
     if written.status == 0:
         yield HEARD
         yield from _sure(answer)
+    logs, items = answer["logs"], answer["items"]
     yield from summary([
-        *((item["place"] or "", item["state"]) for item in answer["items"]
-          if item["state"] not in DONE),
-        *((answer["logs"][tag["certain_in"][0]]["name"], "unexpected") for tag in answer["unexpected"])])
+        *((item["place"] or "", item["state"]) for item in items if item["state"] not in DONE),
+        *((logs[tag["certain_in"][0]]["name"], "unexpected") for tag in answer["unexpected"])])
 
 
 def _sure(answer: Object) -> Iterator[str]:
