@@ -22,6 +22,7 @@ REFUSALS = "WrongLink WrongSlots WrongMask WrongSlot WrongReply TooLong WrongLet
 FAULTS = """Short Crc Extension Reserved OptionFlag OtherCommand InventoryFlag Afi Length
     MaskTooLong MaskPadding SelectFlag NotAddressed ErrorFlag NotVicinity""".split()
 UID_A, UID_B = 0xE0040100000000A1, 0xE0040100000000B2
+A, B = f"{UID_A:016X}", f"{UID_B:016X}"
 LITTLE_A = UID_A.to_bytes(8, "little")
 ALONE = 56, 0x040100000000A1
 WITHOUT_TEXT = "refused at line 1: Header"
@@ -126,15 +127,15 @@ def test_each_fault_of_a_frame(calls, call, name, frame):
 
 
 def test_random_frames_are_written_and_read(calls):
-    chance = random.Random(15693)
+    rng = random.Random(15693)
     for _ in range(NUMBER):
-        frame, _, numbers = inventory(chance)
+        frame, _, numbers = inventory(rng)
         assert calls.write_inventory(*numbers) == framed(frame)
         assert calls.read_request(bytes.fromhex(frame)) == (0, *numbers, 0)
-        frame, _, (link, uid) = stay_quiet(chance)
+        frame, _, (link, uid) = stay_quiet(rng)
         assert calls.write_stay_quiet(link, uid) == framed(frame)
         assert calls.read_request(bytes.fromhex(frame)) == (0, link, 0, 0, 0, uid)
-        frame, _, numbers = reply(chance)
+        frame, _, numbers = reply(rng)
         assert calls.write_response(*numbers) == framed(frame)
         assert calls.read_response(bytes.fromhex(frame)) == (0, *numbers)
         assert calls.add_crc(bytes.fromhex(frame)[:-2]) == framed(frame)
@@ -151,9 +152,6 @@ def test_the_name_of_each_number(calls, what, first, words):
         assert name(number) == (len(word), word.encode()), number
     for number in (50, 99, 300, 1000, 1 << 31, (1 << 32) - 1):
         assert name(number) == (0, b""), number
-
-
-A, B = "E0040100000000A1", "E0040100000000B2"
 
 
 def refusable(line):

@@ -5,7 +5,7 @@ import random
 import pytest
 
 from helpers import collections, surveys
-from helpers.collection_rows import is_right, reader, rows, texts_of
+from helpers.collection_rows import files_of, is_right, reader, rows
 from helpers.random_collections import changed_texts
 from helpers.wrong_collections import WRONG, reads_without_an_end
 
@@ -16,7 +16,7 @@ CHANGED, PARTS, ONE_IN, SEED = 20_000, 5, 50, 15699
 @pytest.mark.parametrize(("command", "files", "row", "answer"), rows())
 def test_the_pages_say_the_same(command, files, row, answer):
     """The model, which is written from the pages."""
-    said = collections.told(command, files, reader(texts_of(row)))
+    said = collections.run(command, files, reader(files_of(row)))
     assert is_right(answer, said), said
 
 
@@ -28,7 +28,7 @@ def test_the_model_reads_surveys_exactly(part):
         found = surveys.read(text)
         if isinstance(found, list):
             read += 1
-            assert surveys.text_of(found) == text
+            assert surveys.written(found) == text
         else:
             assert 1 <= found <= text.count(b"\n") + 1
     assert read > CHANGED // PARTS // ONE_IN
@@ -38,7 +38,7 @@ def is_found(monkeypatch, where, name, wrong):
     """Whether some row isn't answered as it has to be, with something wrong in a module."""
     monkeypatch.setattr(where, name, wrong)
     quick = (row.values for row in rows() if not row.marks)
-    return any(not is_right(answer, collections.told(command, files, reader(texts_of(row))))
+    return any(not is_right(answer, collections.run(command, files, reader(files_of(row))))
                for command, files, row, answer in quick)
 
 

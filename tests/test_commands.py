@@ -19,7 +19,7 @@ from helpers.lines import log_of
 from helpers.memory import WANT, refused, shim
 from helpers.names import NUMBERS
 from helpers.program import TOP, linked
-from helpers.random_logs import text_of
+from helpers.random_logs import log_text
 from helpers.runs import SPELLED
 
 PAIRS = ("commands", "arm")
@@ -137,7 +137,7 @@ def test_beginnings_of_a_log(ask):
 def test_many_tags_that_may_be_in_the_last_of_many_logs(ask, tmp_path):
     """No log is looked through for each tag: within seconds of a processor."""
     tags = random.Random(14).sample(range(1 << UID_BITS), 100_000)
-    texts = [text_of(3, (Claimed(TOP_BYTE | tag) for tag in tags)), log_of("I1 S"), log_of("")]
+    texts = [log_text(3, (Claimed(TOP_BYTE | tag) for tag in tags)), log_of("I1 S"), log_of("")]
     expected, silent, unasked = written(tmp_path, "log", texts)
     ask(["reconcile", expected, *[silent] * 1000, unasked],
         preexec_fn=lambda: resource.setrlimit(resource.RLIMIT_CPU, (4, 4)))

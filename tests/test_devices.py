@@ -6,7 +6,7 @@ import subprocess
 
 import pytest
 
-from helpers.lines import log_lines, text_of
+from helpers.lines import log_of
 from helpers.memory import shim
 from helpers.program import TOP
 
@@ -20,13 +20,13 @@ WORDS = ("frame 260100F60A", "frame 26", "spell request inventory link 2 slots 1
          "spell request inventory")
 # What is expected, and logs.
 RECONCILED = ("UA UB", "I1 RA", "I1 C MA RA")
-READ = text_of(log_lines("I16 S RA RB S13 UA UB"))
+READ = log_of("I16 S RA RB S13 UA UB")
 COMMANDS = ("check", "explain", "report", "margin", "simulate")
 # A text with a fault that no further byte can change, one of nothing, one that isn't a list alone,
 # and the log of a contradiction.
 FAULTY, EMPTY = "vicinity-log 9\n", "vicinity-log 1\n"
 NO_LIST = "vicinity-log 1\nT 260100F60A\nS\n"
-IMPOSSIBLE = text_of(log_lines("I1 S I1 RA")).decode()
+IMPOSSIBLE = log_of("I1 S I1 RA").decode()
 # What writes without end, and the refusal of it.
 ENDLESS = (("tr '\\0' '#' </dev/zero", "line 1: LineTooLong"), ("yes ''", "line 1: Header"),
            ("echo vicinity-log 9; tr '\\0' ' ' </dev/zero", "line 1: Header"),
@@ -74,7 +74,7 @@ def test_what_no_further_byte_can_change_is_answered_before_it_is_read(run, comm
 
 @pytest.mark.parametrize(("command", "names"), LOGS)
 def test_each_write_over_a_log_fails(run, command, names):
-    writes(run, command, text_of(log_lines(names)))
+    writes(run, command, log_of(names))
 
 
 @pytest.mark.parametrize("words", WORDS)
@@ -86,7 +86,7 @@ def test_each_write_over_words_fails(run, words):
 def over_files(request, tmp_path):
     """Words of a command over several files, and how many reads of a byte that takes: each byte,
     and the end of each."""
-    texts = [text_of(log_lines(names)) for names in RECONCILED]
+    texts = [log_of(names) for names in RECONCILED]
     for number, text in enumerate(texts):
         (tmp_path / str(number)).write_bytes(text)
     names = [str(tmp_path / str(number)) for number in range(len(texts))]

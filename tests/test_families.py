@@ -12,7 +12,7 @@ import pytest
 from helpers.air import Listed
 from helpers.families import NAMES, WRONG, Families, case_of
 from helpers.library import STATUSES
-from helpers.random_logs import text_of
+from helpers.random_logs import log_text
 
 NUMBER, SEED = 5000, 15693
 # In how many parts the cases are asked.
@@ -33,7 +33,7 @@ def answer(program, vicinity, tmp_path, monkeypatch):
     monkeypatch.chdir(tmp_path)
 
     def ask(expected, texts):
-        texts = [text_of(1, map(Listed, expected)), *texts]
+        texts = [log_text(1, map(Listed, expected)), *texts]
         names = ["EXPECTED", *NAMES][:len(texts)]
         for name, text in zip(names, texts):
             (tmp_path / name).write_bytes(text)
@@ -56,7 +56,7 @@ def cases_of(number, seed, part):
 def test_random_logs(answer, logs, part):
     number, seen = logs[0], collections.Counter()
     for seed, uids, expected, given in cases_of(*logs, part):
-        texts = [text_of(version, lines) for version, lines in given]
+        texts = [log_text(version, lines) for version, lines in given]
         wanted = Families(uids, expected, given).answer()
         assert same(answer(expected, texts), wanted), seed
         seen.update(line.split()[0] for line in wanted)

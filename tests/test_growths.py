@@ -13,7 +13,7 @@ import pytest
 
 from biglog import BITS, SHAPES, ask, low, new_tags, version_of
 from helpers import random_logs
-from helpers.lines import biglog, log_lines, rows, text_of
+from helpers.lines import biglog, log_lines, log_of, rows, text_of
 from helpers.memory import WANT, counted, refused, shim
 from helpers.program import TOP, program_of
 
@@ -21,10 +21,10 @@ EXAMPLE = (TOP / "examples/unfinished-count.log").read_bytes()
 # The logs, by the short names of their lines, on which each allocation of a command is refused: of
 # each verdict, of each kind of conflict, and two to fill in.
 JUDGED = ("I16 S RA RB S13 UA UB", "I1 C MA RA QA I1 RB UA UB",
-          "I16 S C S14 N1 S10 RA RB1 S4 UA UB1", "I1 RA", "I1 S UA",
+          "I16 S C S14 I16M1 S10 RA RB1 S4 UA UB1", "I1 RA", "I1 S UA",
           "QA I1 S", "QA I1 S UA", "M55 C QZ QY I1 S", "MB RA", "I1 RA QA I1 RA", "I1 S I1 RA",
           "I1 RA I1 S",
-          "I16 S C S14 N1 S10 RA S S4 UA", "V2 QZ I1 S F I1 D", "V3 I16 N HA S14 QA I1 HB UA UB")
+          "I16 S C S14 I16M1 S10 RA S S4 UA", "V2 QZ I1 S F I1 D", "V3 I16 N HA S14 QA I1 HB UA UB")
 ASKED = ("I16 UA UB", "I1 QA I1 UA UB")
 # Commands over words and over a log.
 OVER_WORDS = ("spell request inventory link 2 slots 1 mask 0 -", "frame 260100F60A")
@@ -112,7 +112,7 @@ OVER_A_LOG += [("simulate", log) for log in ("example", *ASKED)]
 
 @pytest.mark.parametrize(("command", "log"), OVER_A_LOG)
 def test_each_allocation_over_a_log_is_refused(program, refuse, tmp_path, command, log):
-    text = EXAMPLE if log == "example" else text_of(log_lines(log))
+    text = EXAMPLE if log == "example" else log_of(log)
     if (command, log) == ("simulate", "example"):
         text = b"".join(line for line in EXAMPLE.splitlines(keepends=True) if line[:1] in b"vTU")
     (tmp_path / "log").write_bytes(text)
@@ -125,7 +125,7 @@ def test_each_allocation_over_many_logs_is_refused(program, refuse, tmp_path, lo
     names = [str(tmp_path / str(number)) for number in range(len(logs))]
     for name, log in zip(names, logs):
         with open(name, "wb") as file:
-            file.write(text_of(log_lines(log)))
+            file.write(log_of(log))
     is_refused(program, refuse, command, *names)
 
 
@@ -157,7 +157,7 @@ def test_a_log_made_to_hurt_is_judged_once(growths, refuse, name):
 def test_random_logs_are_judged_once(growths, refuse, part):
     rng, left = random.Random(f"7 {part}"), IMPOSSIBLE // PARTS
     while left:
-        text = random_logs.text_of(*random_logs.contradicted(rng)).decode()
+        text = random_logs.log_text(*random_logs.contradicted(rng)).decode()
         left -= judged(growths, refuse, text).startswith("impossible")
 
 

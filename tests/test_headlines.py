@@ -9,7 +9,7 @@ from helpers import random_collections
 from helpers.air import Ask, Listed, Reply
 from helpers.headlines import collection_says_too_much, log_says_too_much
 from helpers.program import TOP, Program
-from helpers.random_logs import contradicted, eight_uids, random_log, text_of
+from helpers.random_logs import contradicted, eight_uids, log_text, random_log
 
 NUMBER, PARTS, SEED = 600, 1, 15701
 # How many of the logs are as a reader writes them that asks true questions.
@@ -36,7 +36,7 @@ def log_of(rng):
         lines = random_log(rng, version)[1]
     else:
         version, lines = contradicted(rng)
-    return text_of(version, lines), sum(isinstance(line, Listed) for line in lines)
+    return log_text(version, lines), sum(isinstance(line, Listed) for line in lines)
 
 
 def collection_of(rng):
@@ -45,7 +45,7 @@ def collection_of(rng):
         uids = dict(zip("ab", eight_uids(rng)))
         rows = "".join(f"{uid:016X},{name}\n" for name, uid in uids.items())
         return [("K", f"uid,place\n{rows}".encode()), *(
-            (name, text_of(1, [Ask(False, 0, 0), Reply(uid)])) for name, uid in uids.items())]
+            (name, log_text(1, [Ask(False, 0, 0), Reply(uid)])) for name, uid in uids.items())]
     while True:
         case = random_collections.case_of(rng)
         if len({*case.words} & {*case.files}) > 1 and {*case.words} <= {*case.files}:

@@ -11,9 +11,9 @@ KINDS = inventory, stay_quiet, reply, reply
 
 
 def test_random_frames(program, pytestconfig):
-    chance = random.Random(15693)
+    rng = random.Random(15693)
     for index in range(pytestconfig.getoption("--logs") or NUMBER):
-        frame, line, _ = KINDS[index % len(KINDS)](chance)
+        frame, line, _ = KINDS[index % len(KINDS)](rng)
         said = program.run("frame", frame)
         assert line in said.out.decode().splitlines() and said.status == 0
         assert program.run("spell", *line.split()) == (f"{frame}\n".encode(), b"", 0)

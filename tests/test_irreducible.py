@@ -8,7 +8,7 @@ import random
 import pytest
 
 from helpers.air import COLLISION, FIELD_CYCLE, SILENT, Ask, StayQuiet, slots_of
-from helpers.random_logs import contradicted, text_of
+from helpers.random_logs import contradicted, log_text
 
 NUMBER, PARTS = 1000, 8
 
@@ -17,11 +17,11 @@ NUMBER, PARTS = 1000, 8
 def asked(program):
     """The lines that the program writes of a log."""
     def ask(command, version, lines):
-        return program.run(command, given=text_of(version, lines)).out.decode().splitlines()
+        return program.run(command, given=log_text(version, lines)).out.decode().splitlines()
     return ask
 
 
-def log_of(lines, kept):
+def log_of_slots(lines, kept):
     """A log of some slots of another one, each asked by its mask, where the same tags are Quiet."""
     left = []
     for number, line in enumerate(lines, 2):
@@ -36,7 +36,7 @@ def log_of(lines, kept):
 @pytest.mark.parametrize("part", range(PARTS))
 def test_no_line_of_a_conflict_can_be_left_out(asked, pytestconfig, part):
     def is_impossible(kept):
-        return asked("check", 3, log_of(lines, kept))[0].startswith("impossible")
+        return asked("check", 3, log_of_slots(lines, kept))[0].startswith("impossible")
 
     rng, left = random.Random(f"56 {part}"), (pytestconfig.getoption("--logs") or NUMBER) // PARTS
     while left:
@@ -47,10 +47,10 @@ def test_no_line_of_a_conflict_can_be_left_out(asked, pytestconfig, part):
         left -= 1
         numbers = [int(line.split()[-1]) for line in rest if line.startswith("by line ")]
         kept = {slot.number: slot for slot in slots_of(lines) if slot.number in numbers}
-        text = text_of(version, lines).decode()
+        text = log_text(version, lines).decode()
         assert numbers and numbers == sorted(kept) and is_impossible(kept), text
         for number in numbers:
-            without = {n: slot for n, slot in kept.items() if n != number}
+            without = {line: slot for line, slot in kept.items() if line != number}
             assert not is_impossible(without), f"{number} of {text}"
 
 

@@ -15,7 +15,7 @@ from vicinity._native import AnswerStruct, WeakestStruct
 from helpers.air import UNKNOWN, is_slot
 from helpers.margins import WRONG, Margins
 from helpers.oracle import Judge
-from helpers.random_logs import eight_uids, random_log, rounds, text_of
+from helpers.random_logs import eight_uids, log_text, random_log, rounds
 
 NUMBER, SEED = 3000, 15693
 # In how many parts the logs are judged; the first one alone is quick.
@@ -45,7 +45,7 @@ def test_random_logs(program, library, overlooked, logs, part):
     for _ in range(number):
         version = rng.randint(1, 3)
         uids, lines = random_log(rng, version)
-        text, told, weakest = text_of(version, lines), AnswerStruct(), WeakestStruct()
+        text, told, weakest = log_text(version, lines), AnswerStruct(), WeakestStruct()
         library.call("margin", text, ctypes.byref(told), ctypes.byref(weakest))
         margins, uids = Margins(lines), [*uids, *eight_uids(rng)]
         said = program.run("margin", given=text).out.decode().splitlines()
@@ -82,7 +82,7 @@ def small_logs(seed):
 
 def test_a_margin_is_exact(overlooked, logs):
     for uids, lines in itertools.islice(small_logs(logs[1]), SMALL):
-        text, least = text_of(3, lines), by_trying(uids, lines)
+        text, least = log_text(3, lines), by_trying(uids, lines)
         assert overlooked(text, uids) == least == list(map(Margins(lines).of, uids)), text
 
 

@@ -26,7 +26,7 @@ NUMBERED = {
 TAKEN = {"[FILE]": "LOG", "HEX": "WORDS", "WORD ..": "WORDS"}
 
 
-def text_of(name):
+def source(name):
     return (TOP / name).read_text()
 
 
@@ -47,13 +47,13 @@ def test_what_words_ask_for(program, tmp_path, name):
 
 def test_no_other_word_asks_for_anything():
     """The names in the code that reads the words."""
-    code = text_of("crates/vic_words/src/commands.rt")
+    code = source("crates/vic_words/src/commands.rt")
     named = set(re.findall(r"\"([a-z-]+)\"", code)) - {"vicinity", "file", "hex", "words"}
     assert named == set(OPERANDS)
 
 
 def test_the_man_page():
-    text = text_of("docs/vicinity.1")
+    text = source("docs/vicinity.1")
     synopsis = re.search(r"^\.Sh SYNOPSIS\n(.*?)^\.Sh", text, re.M | re.S)[1]
     parts = {name: on_man_page(operands) for name, operands in OPERANDS.items()}
     assert sorted(synopsis.split(".Nm\n")[1:]) == sorted(
@@ -64,19 +64,19 @@ def test_the_man_page():
 
 @pytest.mark.parametrize("page", ["README.md", "docs/COMMANDS.md"])
 def test_pages(page):
-    text = text_of(page)
+    text = source(page)
     written = {*re.findall(r"`vicinity ([a-z-]+ \[FILE\]|[a-z-]+ [A-Z][^`]*)`", text)}
     assert written == {f"{name} {operands}" for name, operands in OPERANDS.items()}
 
 
 def test_sections_of_commands():
-    headings = re.findall(r"^## ([a-z, -]+)$", text_of("docs/COMMANDS.md"), re.M)
+    headings = re.findall(r"^## ([a-z, -]+)$", source("docs/COMMANDS.md"), re.M)
     assert sorted(re.split(r" and ", " and ".join(headings))) == sorted(OPERANDS)
 
 
 @pytest.mark.parametrize("file", NUMBERED)
 def test_names_and_numbers(file):
-    text, pattern = text_of(file), NUMBERED[file]
+    text, pattern = source(file), NUMBERED[file]
     if isinstance(pattern, tuple):
         text, pattern = re.search(pattern[0], text, re.M | re.S)[1], pattern[1]
     found = {}
@@ -88,5 +88,5 @@ def test_names_and_numbers(file):
 
 def test_what_the_commands_in_c_take():
     for name, operands in OPERANDS.items():
-        taken = re.search(rf"\{{\"{name}\", +([A-Z]+)\}}", text_of("commands/vicinity.c"))[1]
+        taken = re.search(rf"\{{\"{name}\", +([A-Z]+)\}}", source("commands/vicinity.c"))[1]
         assert taken == TAKEN.get(operands, "FILES"), name

@@ -2,7 +2,7 @@
 WebAssembly. The rows of one log are asked in test_rows.py."""
 import pytest
 
-from helpers.library import COMMANDS, SIZE, U32, OneCall, run_of
+from helpers.library import COMMANDS, SIZE, U32, OneCall, run_arguments
 from helpers.lines import log_of, reconciled_rows
 
 
@@ -27,7 +27,7 @@ LOG, LISTS = log_of("I1 RA UA"), log_of("UA")
     ("spell", [b"request", b"\x80"])])
 def test_what_a_command_does_not_take(library_of, command, texts):
     """The line that the program writes to standard error, in buffers of every size."""
-    assert library_of.into_each(b"vicinity: usage\n", "run", *run_of(command, texts)) == 4
+    assert library_of.into_each(b"vicinity: usage\n", "run", *run_arguments(command, texts)) == 4
 
 
 FAR = (1 << 64) - 1
@@ -66,4 +66,4 @@ def test_what_does_not_go_together(library_of, number, names, lengths):
 def test_what_a_command_writes(library_of, command, texts, names, written, status):
     """In buffers of every size. A NUL, and a text of no bytes, are as any other."""
     names = names and [name if isinstance(name, bytes) else name.encode() for name in names]
-    assert library_of.into_each(written, "run", *run_of(command, texts, names)) == status
+    assert library_of.into_each(written, "run", *run_arguments(command, texts, names)) == status

@@ -18,7 +18,7 @@ from helpers.claims import claims
 from helpers.library import STATUSES, answer_to
 from helpers.oracle import Case
 from helpers.program import TOP, Program
-from helpers.random_logs import contradicted, random_log, text_of
+from helpers.random_logs import contradicted, log_text, random_log
 
 NUMBER, SEED = 20000, 15693
 # In how many parts the logs are judged; the last of four has logs of version 3.
@@ -122,7 +122,7 @@ def test_two_million_borders(program):
             for line in [Ask(True, ASKED_BITS, low), *map(Reply, uids[low::1 << ASKED_BITS])]]
 
     def text(lines):
-        return text_of(1, lines).removeprefix(HEADER)
+        return log_text(1, lines).removeprefix(HEADER)
 
     slots = HEADER + text(once) * (TIMES - 1) + text(once[:-1])
 

@@ -207,7 +207,7 @@ def test_random_pictures(vicinity):
     for _ in range(RANDOM_LOGS):
         version = rng.randint(1, 3)
         _, lines = random_logs.random_log(rng, version)
-        text = random_logs.text_of(version, lines)
+        text = random_logs.log_text(version, lines)
         found = findings.JudgedLog(text)
         kinds.add(found.answer.kind.word)
         parts = [headline.headline(found), *show.show(found),

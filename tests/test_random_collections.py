@@ -1,7 +1,6 @@
 """What the program writes of collections: the worked rows of tests/data/collections/; random ones,
 and changed texts of surveys, which it has to answer as the model does (helpers/collections.py),
 byte by byte; and small ones, of which each family of populations is tried."""
-import itertools
 import json
 import random
 import shutil
@@ -11,14 +10,13 @@ from collections import Counter
 import pytest
 
 from helpers import collections, surveys
-from helpers.collection_rows import is_right, reader, rows, texts_of
-from helpers.oracle import Judge
-from helpers.random_collections import case_of, changed_texts, seed_texts, world_of
+from helpers.collection_rows import files_of, is_right, reader, rows
+from helpers.random_collections import case_of, changed_texts, seed_texts
+from helpers.worlds import is_complete, world_of
 
 # How many random collections there are, and how many changed texts of surveys, in how many parts.
 NUMBER, CHANGED, PARTS, SEED = 2000, 20_000, 5, 15699
 COMMANDS = "collection", "json-collection"
-STATUSES = {"possible": 0, "impossible": 2, "refused": 3}
 
 
 @pytest.fixture
@@ -32,7 +30,7 @@ def run(program, tmp_path):
 @pytest.mark.parametrize(("command", "files", "row", "answer"),
                          [row for row in rows() if row.values[0] in COMMANDS])
 def test_row(run, command, files, row, answer):
-    said = run(command, files, texts_of(row))
+    said = run(command, files, files_of(row))
     assert is_right(answer, said), said
 
 
@@ -59,19 +57,17 @@ class Asked:
             self.put(name, text)
             out, err, status = self.run("survey", name)
             found, wanted = surveys.read(out), surveys.of(name, text)
-            assert isinstance(found, list) and surveys.text_of(found) == out, out
+            assert isinstance(found, list) and surveys.written(found) == out, out
             told, = found
-            assert (err, status) == (b"", STATUSES[wanted.field.split()[0]])
-            assert told._replace(certain=set(told.certain)) == wanted._replace(
-                certain=set(wanted.certain)), text
-            assert all(told.certain[uid][0] in lines for uid, lines in wanted.certain.items()), text
+            assert (err, status) == (b"", wanted.status)
+            assert surveys.is_right(told, wanted), text
             self.surveys[name] = told
         return self.surveys[name]
 
     def told(self, command, words):
         """What a command writes, which is what the model says."""
         said = self.run(command, *words)
-        wanted = collections.told(command, words, reader(self.texts), self.survey)
+        wanted = collections.run(command, words, reader(self.texts), self.survey)
         assert said == wanted, (command, words, self.texts)
         return said
 
@@ -164,30 +160,6 @@ def test_a_catalogue_of_uids_alone_says_what_its_list_does(program, tmp_path, se
         assert said.status == told.status
     else:
         assert told.status in (3, 4)  # names that a list accepts
-
-
-def families(world):
-    """What tags are in each field, in each family of populations that could have produced the
-    logs; none if a log is impossible."""
-    judge = Judge(world.uids)
-    each = [judge.judge(lines).populations for lines in world.lines.values()]
-    for family in itertools.product(*each):
-        yield dict(zip(world.lines, (
-            {uid for uid in world.uids if judge.bits[uid] & there} for there in family)))
-
-
-def is_complete(world):
-    """Whether a collection is as `complete` says, by all families."""
-    wanted = {uid for uid, _, away in world.items if not away}
-    tried = 0
-    for tried, fields in enumerate(families(world), 1):
-        if set().union(*fields.values()) != wanted:
-            return False
-        for uid, place, away in world.items:
-            logs = [name for name in fields if place in (None, name[-5])]
-            if not away and not any(uid in fields[name] for name in logs):
-                return False
-    return tried > 0
 
 
 @pytest.mark.slow

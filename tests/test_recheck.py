@@ -12,11 +12,10 @@ import pytest
 
 from biglog import ask, claim, low, new_tags, silence
 from helpers.air import COLLISION, GARBLED, SILENT, UNKNOWN, Reply, is_slot
-from helpers.fuzz import changed
-from helpers.lines import biglog, log_of, rows
-from helpers.lines import text_of as text_of_lines
+from helpers.fuzz import changed_log
+from helpers.lines import biglog, log_of, rows, text_of
 from helpers.program import TOP, Program
-from helpers.random_logs import random_log, text_of
+from helpers.random_logs import log_text, random_log
 
 NUMBER, SEED = 20000, 15693
 # In how many parts the logs are; the first one alone is quick.
@@ -67,9 +66,9 @@ def random_logs(check, number, seed):
             version, lines = complete[0], altered(rng, *complete)
         else:
             lines = random_log(rng, version)[1]
-        text = text_of(version, lines)
+        text = log_text(version, lines)
         seeds = [*seeds[-9:], text]
-        text = changed(rng, seeds) if turn > 0.9 else text
+        text = changed_log(rng, seeds) if turn > 0.9 else text
         answer = check(text)
         if answer.kind.name == "COMPLETE" and text == seeds[-1] and lines:
             complete = version, lines
@@ -169,7 +168,7 @@ def collisions():
     ("closed-cycles", 300_000, "complete 0"), ("nest-coll", 900_000, "not complete"),
     ("collisions", 0, "not complete")])
 def test_a_million_lines_take_less_than_a_minute(vicinity, shape, size, answer):
-    text = biglog(shape, size) if size else text_of_lines(collisions())
+    text = biglog(shape, size) if size else text_of(collisions())
     assert 900_000 < text.count(b"\n") <= 1_000_000
     assert wanted(vicinity.check(text).text) == answer
     start = time.process_time()

@@ -9,7 +9,7 @@ from helpers.rows import BY_ONE_CALL, MODULES, PROGRAMS, all_rows
 EVERYBODY = (*PROGRAMS, "windows", *BY_ONE_CALL, *MODULES)
 COMPLETE = "I16 S RA RB S13 UA UB"
 # A log that is impossible from its second tag in a round on; and how it begins, which is possible.
-IMPOSSIBLE, POSSIBLE = "I16 S C S14 N1 S10 RA S S4 UA", "I16 S C S14 N1 S10 RA S4"
+IMPOSSIBLE, POSSIBLE = "I16 S C S14 I16M1 S10 RA S S4 UA", "I16 S C S14 I16M1 S10 RA S4"
 
 
 @pytest.mark.parametrize(("asked", "command", "given", "answers", "status"), all_rows(EVERYBODY),

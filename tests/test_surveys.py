@@ -6,13 +6,12 @@ import subprocess
 import pytest
 
 from helpers import surveys
-from helpers.collection_rows import is_right, rows, texts_of
+from helpers.collection_rows import files_of, is_right, rows
 from helpers.random_collections import case_of, kind_of
-from helpers.random_logs import random_log, text_of
+from helpers.random_logs import log_text, random_log
 
 # How many random collections and other random logs are surveyed, in how many parts.
 NUMBER, PARTS, SEED = 1500, 5, 15699
-STATUSES = {"possible": 0, "impossible": 2, "refused": 3}
 
 
 @pytest.fixture
@@ -29,23 +28,16 @@ def survey(program, tmp_path):
 @pytest.mark.parametrize(("command", "files", "row", "answer"),
                          [row for row in rows() if row.values[0] == "survey"])
 def test_row(survey, command, files, row, answer):
-    assert is_right(answer, said := survey(files, texts_of(row))), said
+    assert is_right(answer, said := survey(files, files_of(row))), said
 
 
 def logs_of(rng):
     """Some logs by their names: those of a random collection, or one of another kind."""
     version = rng.randint(1, 3)
     if rng.random() < 0.2:
-        return {"a.log": text_of(version, random_log(rng, version)[1])}
+        return {"a.log": log_text(version, random_log(rng, version)[1])}
     files = case_of(rng).files
     return {name: text for name, text in files.items() if kind_of(text) == "log"}
-
-
-def as_it_has_to_be(told, wanted):
-    """Whether a survey is right; of several lines that show a UID one was chosen."""
-    return told._replace(certain=set(told.certain)) == wanted._replace(
-        certain=set(wanted.certain)) and all(
-            told.certain[uid][0] in lines for uid, lines in wanted.certain.items())
 
 
 @pytest.mark.slow
@@ -57,6 +49,6 @@ def test_random_logs(survey, logs, part):
         if texts:
             out, err, status = survey(texts, texts)
             told, wanted = surveys.read(out), [surveys.of(*log) for log in texts.items()]
-            assert surveys.text_of(told) == out
-            assert all(map(as_it_has_to_be, told, wanted)) and len(told) == len(wanted), texts
-            assert (err, status) == (b"", max(STATUSES[one.field.split()[0]] for one in wanted))
+            assert surveys.written(told) == out
+            assert all(map(surveys.is_right, told, wanted)) and len(told) == len(wanted), texts
+            assert (err, status) == (b"", max(one.status for one in wanted))

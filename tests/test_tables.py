@@ -12,6 +12,7 @@ import pytest
 from helpers import tables
 from helpers.memory import refused, shim
 from helpers.program import TOP, Program, needs, program_of
+from helpers.random_collections import DAMAGE
 
 ROWS = json.loads((TOP / "tests/data/tables.json").read_text())
 # How many catalogues are damaged, in how many parts.
@@ -51,46 +52,45 @@ def test_the_limits(read_tables, text, told):
     assert read_tables([text]) == [told]
 
 
-def catalogue(chance):
+def catalogue(rng):
     """A random catalogue, of a kind that people write."""
-    separator, end = chance.choice(",;\t"), chance.choice(("\n", "\r\n"))
-    names = ["uid", "title", *chance.choice(((), ("place",), ("place", "away")))]
+    separator, end = rng.choice(",;\t"), rng.choice(("\n", "\r\n"))
+    names = ["uid", "title", *rng.choice(((), ("place",), ("place", "away")))]
     lines = [separator.join(names)]
-    for _ in range(chance.randrange(1, 7)):
-        uid = f"E0{chance.getrandbits(56):014X}"
-        cell = {"uid": chance.choice((uid, uid, uid.lower(), f'"{uid}"', "none")),
-                "title": chance.choice(("x", "", '"a ""b"" c"', f'"a{separator}b"', "\u00e9")),
-                "place": chance.choice(("a", "any", "b c")), "away": chance.choice(("", "away"))}
+    for _ in range(rng.randrange(1, 7)):
+        uid = f"E0{rng.getrandbits(56):014X}"
+        cell = {"uid": rng.choice((uid, uid, uid.lower(), f'"{uid}"', "none")),
+                "title": rng.choice(("x", "", '"a ""b"" c"', f'"a{separator}b"', "\u00e9")),
+                "place": rng.choice(("a", "any", "b c")), "away": rng.choice(("", "away"))}
         lines.append(separator.join(cell[name] for name in names))
-    return end.join(lines).encode() + chance.choice((b"", end.encode()))
+    return end.join(lines).encode() + rng.choice((b"", end.encode()))
 
 
-def damaged(chance, text):
+def damaged(rng, text):
     """The text with a byte, a cell, a line or a block lost, doubled, moved or changed."""
-    kind = chance.randrange(5)
+    kind = rng.randrange(5)
     if kind == 0:
         parts = re.findall(rb"[^\n]*\n|[^\n]+", text)
     elif kind == 1:
         parts = re.findall(rb"[,;\t\n]|[^,;\t\n]+", text)
     else:
-        parts = [text[i:i + 1] for i in range(len(text))]
-    size = 1 if kind < 4 else chance.randrange(1, 40)
-    at = chance.randrange(len(parts))
+        parts = [text[at:at + 1] for at in range(len(text))]
+    size = 1 if kind < 4 else rng.randrange(1, 40)
+    at = rng.randrange(len(parts))
     block = parts[at:at + size]
     rest = parts[:at] + parts[at + size:]
-    to = chance.randrange(len(rest) + 1)
-    new = chance.choice((b",", b";", b'"', b"\n", b"\r", b" ", b"0", b"E", b"-", b"\xc3", b"\0"))
-    return b"".join(chance.choice((
+    to = rng.randrange(len(rest) + 1)
+    return b"".join(rng.choice((
         rest, parts[:at] + block + parts[at:], rest[:to] + block + rest[to:],
-        parts[:at] + [new] + parts[at + size:])))
+        parts[:at] + [rng.choice(DAMAGE)] + parts[at + size:])))
 
 
 @pytest.mark.slow
 @pytest.mark.parametrize("part", range(PARTS))
 def test_damaged_catalogues(read_tables, logs, part):
     number, seed = logs
-    chance = random.Random(seed + part)
-    texts = [damaged(chance, catalogue(chance)) for _ in range(number)]
+    rng = random.Random(seed + part)
+    texts = [damaged(rng, catalogue(rng)) for _ in range(number)]
     kinds = set()
     for text, told in zip(texts, read_tables(texts), strict=True):
         assert told == tables.line_of(tables.read(text)), text
@@ -151,8 +151,8 @@ def test_each_allocation_is_refused(pytestconfig, tmp_path):
         told = said.out.decode().splitlines()
         if said.status:
             # the program itself had no memory, and wrote at most what was read before
-            assert all(a in (b, "memory") for a, b in zip(told, right))
+            assert all(line in (whole, "memory") for line, whole in zip(told, right))
             continue
-        assert all(a in (b, "memory") for a, b in zip(told, right, strict=True))
+        assert all(line in (whole, "memory") for line, whole in zip(told, right, strict=True))
         seen |= set(told)
     assert "memory" in seen

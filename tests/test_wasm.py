@@ -9,7 +9,7 @@ import re
 import pytest
 from vicinity._native import AnswerStruct, WeakestStruct
 
-from helpers.library import CALLS, LISTING, U32, WRITING, run_of, uids
+from helpers.library import CALLS, LISTING, U32, WRITING, run_arguments, uids
 from helpers.lines import log_of
 from helpers.program import MAKE, TOP, Program, told
 from helpers.texts import texts as all_texts
@@ -70,7 +70,7 @@ MEASURING, NO_MARGIN = ("margin", "margin_listed"), bytes(WeakestStruct())
 # The status of a call that was refused memory.
 REFUSED = 4
 # Logs of which each allocation is refused.
-GROWING = ("I16 S C S14 N1 S10 RA RB1 S4 UA UB1", "I1 S I1 RA", "I1 RA", "I1 S UA", "I1 C UA")
+GROWING = ("I16 S C S14 I16M1 S10 RA RB1 S4 UA UB1", "I1 S I1 RA", "I1 RA", "I1 S UA", "I1 C UA")
 
 
 def test_the_module_needs_nothing_and_exports_the_calls(wasm_module):
@@ -201,6 +201,6 @@ def test_each_growth_is_refused(growing, names):
     for name in "check_listed", "margin_listed":
         growing.refuse_each(name, beside, listed)
     growing.refuse_each("simulate", log_of("I1 QA I1 UA UB"))
-    growing.refuse_each("run", *run_of("report", [log_of(names)]))
-    reconciled = run_of("reconcile", [log_of("UA UB"), log_of(names)], [b"EXPECTED", b"a"])
+    growing.refuse_each("run", *run_arguments("report", [log_of(names)]))
+    reconciled = run_arguments("reconcile", [log_of("UA UB"), log_of(names)], [b"EXPECTED", b"a"])
     growing.refuse_each("run", *reconciled, or_right=True)

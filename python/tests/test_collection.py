@@ -91,7 +91,7 @@ class Rows(Command):
         number = 0
         for param in collection_rows.rows():
             command, files, row, answer = param.values
-            form, texts = ROWS.get(command), collection_rows.texts_of(row)
+            form, texts = ROWS.get(command), collection_rows.files_of(row)
             if not form or answer["status"] == 4 or param.marks or not set(files) <= texts.keys():
                 continue
             if command == "reconcile" and texts[files[0]][:9] in (b"", b"vicinity-"):
@@ -287,13 +287,6 @@ class Asked(Command):
             said = command("collection", *form, "--jobs", jobs, self.catalogue("uid\nnone\n"),
                            self.names[1], large, limit=least() + 100_000)
             self.assertEqual(said, (b"", f"vicinity: out of memory: {large}\n".encode(), 4))
-
-    def test_standard_error_that_takes_nothing(self):
-        words = "collection", "--csv", self.catalogue("uid\nE0040100000000A1\n")
-        for redirected in ("2>&-", "2>/dev/full"):
-            for name, status in ((self.names[1], 0), ("/nowhere", 4)):
-                said, errors, ended = command(*words, name, redirected=redirected)
-                self.assertEqual((bool(said), errors, ended), (not status, b"", status))
 
 
 class Doubts(Command):

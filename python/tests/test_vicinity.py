@@ -134,7 +134,7 @@ class Calls(unittest.TestCase):
 
     def test_arrays_for_the_library_are_aligned(self):
         for numbers in ([], [A], [A] * 3):
-            self.assertEqual(ctypes.addressof(_calls._numbers(numbers)) % 8, 0)
+            self.assertEqual(ctypes.addressof(_calls._numbers(numbers)[0]) % 8, 0)
 
     def test_the_page_of_a_log(self):
         text = log(ALL + HEARD_A)

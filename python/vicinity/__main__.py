@@ -34,11 +34,10 @@ class Once(argparse.Action):
 
     def __call__(self, parser: argparse.ArgumentParser, arguments: argparse.Namespace, value: Any,
                  option: Optional[str] = None) -> None:
-        options = vars(arguments).setdefault("once", set())
-        if option in options:
+        given = vars(arguments).setdefault("given", set())
+        if option in given - {None}:  # names have no option
             raise argparse.ArgumentError(self, "it is given twice")
-        if option:
-            options.add(option)
+        given.add(option)
         setattr(arguments, self.dest, value)
 
 
@@ -99,32 +98,51 @@ def parsers() -> tuple[Parser, Mapping[str, Parser]]:
                  epilog=STATUSES)
     top.add_argument("--version", action="version", version=__version__)
     commands = top.add_subparsers(metavar="COMMAND", parser_class=Parser)
+    _add_answers(commands)
+    _add(commands, "compare", "compare.compare",
+         "what has changed between two answers of collection --json", "OLD NEW", 2, 2, COMPARED,
+         lines="a line for each change", json="one object")
+    show = _add(commands, "show", "draw.draw", "draws the rounds of a log for a terminal")
+    show.add_argument("--ascii", action="store_true", help="only ASCII characters")
+    _add(commands, "page", "draw.page", "draws a log as one HTML file")
+    misread = _add(commands, "misread", "misread.misread", "what a reader that misses, hides or "
+                   "mistakes replies would have written for a true log", ends=WRITTEN)
+    for chance, what in (("capture", "one reply is read over the others of its slot"),
+                         ("miss", "a reply isn't noticed"), ("noise", "noise covers a slot")):
+        misread.add_argument(f"--{chance}", metavar="P", type=_chance, default=0.0,
+                             help=f"the probability that {what}")
+    misread.add_argument("--seed", metavar="N", type=int, default=0,
+                         help="the seed of the random numbers")
+    return top, commands.choices
 
-    def add(name: str, function: str, what: str, names: str = "LOG", least: int = 1, most: int = 1,
-            ends: str = STATUSES, **forms: str) -> Parser:
-        """A command, with the function that does it as MODULE.FUNCTION, and what it does
-        for people. It takes so many names, ends with one of these statuses, and writes in
-        one of these forms, of which the first is the default."""
-        command: Parser = commands.add_parser(name, help=what, description=what, epilog=ends)
-        command.set_defaults(function=function, number=(least, most), form=next(iter(forms), ""))
-        command.add_argument("names", metavar=names, nargs="*")
-        group = command.add_mutually_exclusive_group() if forms else command
-        for form, text in forms.items():
-            group.add_argument(f"--{form}", dest="form", action="store_const", const=form,
-                               help=text)
-        return command
 
-    check = add("check", "answers.check_all", "whether the list of each log is complete",
-                "[LOG ..]", 0, ANY, lines="FILE: answer", json="an object a line",
-                tabs="file, status and answer, separated by tabs")
-    report = add("report", "answers.report_all", "every finding of each log", "[LOG ..]", 0, ANY,
-                 lines="FILE:LINE: text, like a compiler",
-                 json="an object a line, with the findings")
-    collection = add("collection", "collection.collection",
-                     "compares many logs, or their surveys, with a catalogue", "FILE ..", 0, ANY,
-                     COUNTED, lines="a line for each finding", csv="the catalogue, with the state "
-                     "of each item", json="one object: the answer, each item and each log",
-                     page="one HTML file")
+def _add(commands: Any, name: str, function: str, what: str, names: str = "LOG", least: int = 1,
+         most: int = 1, ends: str = STATUSES, **forms: str) -> Parser:
+    """Adds a command, with the function that does it as MODULE.FUNCTION, and what it does for
+    people. It takes so many names, ends with one of these statuses, and writes in one of these
+    forms, of which the first is the default."""
+    command: Parser = commands.add_parser(name, help=what, description=what, epilog=ends)
+    command.set_defaults(function=function, number=(least, most), form=next(iter(forms), ""))
+    command.add_argument("names", metavar=names, nargs="*")
+    group = command.add_mutually_exclusive_group() if forms else command
+    for form, text in forms.items():
+        group.add_argument(f"--{form}", dest="form", action="store_const", const=form, help=text)
+    return command
+
+
+def _add_answers(commands: Any) -> None:
+    """Adds the commands that answer many logs."""
+    check = _add(commands, "check", "answers.check_all", "whether the list of each log is complete",
+                 "[LOG ..]", 0, ANY, lines="FILE: answer", json="an object a line",
+                 tabs="file, status and answer, separated by tabs")
+    report = _add(commands, "report", "answers.report_all", "every finding of each log", "[LOG ..]",
+                  0, ANY, lines="FILE:LINE: text, like a compiler",
+                  json="an object a line, with the findings")
+    collection = _add(commands, "collection", "collection.collection",
+                      "compares many logs, or their surveys, with a catalogue", "FILE ..", 0, ANY,
+                      COUNTED, lines="a line for each finding", csv="the catalogue, with the state "
+                      "of each item", json="one object: the answer, each item and each log",
+                      page="one HTML file")
     collection.add_argument("--jobs", metavar="N", type=_number(), default=1,
                             help="how many logs are surveyed at once")
     for command in (check, report, collection):
@@ -134,20 +152,6 @@ def parsers() -> tuple[Parser, Mapping[str, Parser]]:
         command.add_argument("--margin", metavar="K", type=_number(MOST_MARGIN), default=0,
                              help="a list is complete only if a tag that isn't on it would have "
                                   "had to be missed in K slots or more")
-    add("compare", "compare.compare", "what has changed between two answers of collection --json",
-        "OLD NEW", 2, 2, COMPARED, lines="a line for each change", json="one object")
-    show = add("show", "draw.draw", "draws the rounds of a log for a terminal")
-    show.add_argument("--ascii", action="store_true", help="only ASCII characters")
-    add("page", "draw.page", "draws a log as one HTML file")
-    misread = add("misread", "misread.misread", "what a reader that misses, hides or mistakes "
-                  "replies would have written for a true log", ends=WRITTEN)
-    for chance, what in (("capture", "one reply is read over the others of its slot"),
-                         ("miss", "a reply isn't noticed"), ("noise", "noise covers a slot")):
-        misread.add_argument(f"--{chance}", metavar="P", type=_chance, default=0.0,
-                             help=f"the probability that {what}")
-    misread.add_argument("--seed", metavar="N", type=int, default=0,
-                         help="the seed of the random numbers")
-    return top, commands.choices
 
 
 def _number(most: int = ANY) -> Callable[[str], int]:

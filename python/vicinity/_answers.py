@@ -148,15 +148,12 @@ class Finding(NamedTuple):
     def __str__(self) -> str:
         """The line that `vicinity report` writes, without its LF, and of what a line shows the
         one that names that."""
-        line = f"by line {self.line}"
+        kind, line = self.kind, f"by line {self.line}"
         of = f"{self.uid:016X}" if self.uid else f"{self.mask_len} {self.mask.digits}"
-        kind = FindingKind
-        return {
-            kind.ABSENT: f"absent {of}\n{line}", kind.UNLISTED: f"unlisted {of}\n{line}",
-            kind.UNSETTLED: f"unsettled {of}", kind.DOUBTFUL: f"doubtful {of}",
-            kind.OPEN_MASK: f"open {of}", kind.MORE_OPEN_MASKS: "more open",
-            kind.CONFLICT_LINE: line, kind.SILENCED_BY: f"silenced {line}",
-        }[self.kind]
+        said = {kind.OPEN_MASK: f"open {of}", kind.MORE_OPEN_MASKS: "more open",
+                kind.CONFLICT_LINE: line, kind.SILENCED_BY: f"silenced {line}",
+                }.get(kind, f"{kind.name.lower()} {of}")
+        return f"{said}\n{line}" if kind in (kind.ABSENT, kind.UNLISTED) else said
 
 
 class Report(NamedTuple):

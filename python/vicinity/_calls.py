@@ -9,22 +9,18 @@ from typing import Any, Collection, Iterator, Sequence
 from ._answers import (Answer, Explanation, Fault, Finding, FindingKind, Kind, Margin, Mask, Report,
                        Simulation, Weakest)
 from ._native import (U64, AnswerStruct, BytesLike, FindingStruct, WeakestStruct, bytes_of, filled,
-                      library, text_of)
+                      library, sized)
 from ._run import NO_ANSWER, run
 
-FIRST_ROOM = 64
+#: How many UIDs or findings there is room for at first.
+FIRST_PLACES = 64
 #: struct vicinity_finding.
 PACKED_FINDING = struct.Struct("IIIIQQ")
 
 
-def _text_and_list(text: BytesLike, uids: Collection[int]) -> Sequence[Any]:
-    """A text with a separate list."""
-    listed = _numbers(uids)
-    return *text_of(text), listed, len(listed)
-
-
-def _numbers(uids: Collection[int]) -> ctypes.Array[ctypes.c_uint64]:
-    """UIDs as a C array. Raises OverflowError if a number doesn't fit into 64 bits."""
+def _numbers(uids: Collection[int]) -> tuple[ctypes.Array[ctypes.c_uint64], int]:
+    """UIDs as a C array, and how many they are. Raises OverflowError if a number doesn't fit into
+    64 bits."""
     if isinstance(uids, (str, bytes, bytearray, memoryview)) or hasattr(uids, "read"):
         raise TypeError(f"UIDs are numbers, not {type(uids).__name__}: parse_uid reads one")
     if isinstance(uids, Iterator):
@@ -32,7 +28,7 @@ def _numbers(uids: Collection[int]) -> ctypes.Array[ctypes.c_uint64]:
     numbers = array("Q", uids)
     place = ctypes.c_uint64 * len(numbers)
     # what an empty array points to isn't aligned
-    return place.from_buffer(numbers) if numbers else place()
+    return place.from_buffer(numbers) if numbers else place(), len(numbers)
 
 
 def _call(name: str, inputs: Sequence[Any], *outputs: Any) -> ctypes.Structure:
@@ -64,7 +60,7 @@ def check(text: BytesLike) -> Answer:
 
     Raises TypeError if the text isn't bytes or similar, MemoryError if memory is refused,
     and OSError if the shared library can't be loaded."""
-    return _answer(_call("check", text_of(text)))
+    return _answer(_call("check", sized(text)))
 
 
 def check_listed(text: BytesLike, uids: Collection[int]) -> Answer:
@@ -74,12 +70,12 @@ def check_listed(text: BytesLike, uids: Collection[int]) -> Answer:
     Raises what `check` raises, TypeError if the UIDs are an iterator, as a generator, a map or a
     csv.reader (one that is used up would be an empty list), and OverflowError if one exceeds 64
     bits."""
-    return _answer(_call("check_listed", _text_and_list(text, uids)))
+    return _answer(_call("check_listed", [*sized(text), *_numbers(uids)]))
 
 
 def explain(text: BytesLike) -> Explanation:
     """The answer to a text, and the UIDs of tags that show it. Raises what `check` raises."""
-    answer, room, count = filled(partial(_call, "explain", text_of(text)), U64, FIRST_ROOM)
+    answer, room, count = filled(partial(_call, "explain", sized(text)), U64, FIRST_PLACES)
     return Explanation(_answer(answer), room[:count])
 
 
@@ -88,13 +84,13 @@ def explain_into(text: BytesLike, room: ctypes.Array[ctypes.c_uint64]) -> tuple[
     They are put at the start of the buffer `room` if they fit; otherwise it stays as it is.
     Raises what `check` raises."""
     needed = ctypes.c_size_t()
-    answer = _call("explain", text_of(text), room, len(room), ctypes.byref(needed))
+    answer = _call("explain", sized(text), room, len(room), ctypes.byref(needed))
     return _answer(answer), needed.value
 
 
 def report(text: BytesLike) -> Report:
     """The answer to a text, and every finding. Raises what `check` raises."""
-    answer, room, count = filled(partial(_call, "report", text_of(text)), FindingStruct, FIRST_ROOM)
+    answer, room, count = filled(partial(_call, "report", sized(text)), FindingStruct, FIRST_PLACES)
     findings = memoryview(room).cast("B")[:count * PACKED_FINDING.size]
     kinds = {kind.value: kind for kind in FindingKind}  # quicker than a call for each
     return Report(_answer(answer), [
@@ -105,13 +101,13 @@ def report(text: BytesLike) -> Report:
 def margin(text: BytesLike) -> Margin:
     """The answer to a text, and in how many slots a tag that isn't listed
     would have had to be missed. Raises what `check` raises."""
-    return _margin("margin", text_of(text))
+    return _margin("margin", sized(text))
 
 
 def margin_listed(text: BytesLike, uids: Collection[int]) -> Margin:
     """The answer of `check_listed`, and the margin against this list.
     Raises what `check_listed` raises."""
-    return _margin("margin_listed", _text_and_list(text, uids))
+    return _margin("margin_listed", [*sized(text), *_numbers(uids)])
 
 
 def simulate_into(text: BytesLike, room: ctypes.Array[ctypes.c_uint8]) -> tuple[int, int]:
@@ -119,7 +115,7 @@ def simulate_into(text: BytesLike, room: ctypes.Array[ctypes.c_uint8]) -> tuple[
     They are put at the start of the buffer `room` if they fit; otherwise it stays as it is.
     Raises what `check` raises."""
     needed = ctypes.c_size_t()
-    status = library().vicinity_simulate(*text_of(text), room, len(room), ctypes.byref(needed))
+    status = library().vicinity_simulate(*sized(text), room, len(room), ctypes.byref(needed))
     if status == NO_ANSWER:
         raise MemoryError("vicinity: out of memory")
     return status, needed.value

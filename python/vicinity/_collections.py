@@ -121,12 +121,6 @@ def _all(kind: Callable[..., T], objects: list[Any]) -> tuple[T, ...]:
     return tuple(objects)
 
 
-def _collection(fields: Fields) -> Collection:
-    return _made(Collection, fields, items=_all(Item, fields["items"]),
-                 unexpected=_all(Found, fields["unexpected"]), logs=_all(Log, fields["logs"]),
-                 margin=_made(Least, fields["margin"]) if "margin" in fields else None)
-
-
 def survey(text: BytesLike, name: str) -> Written:
     """What a log of this name says of its field: a text with a checksum, which stands for it in
     `collection`, also on another machine. The status is 2 or 3 if it is impossible or refused.
@@ -143,7 +137,10 @@ def collection(files: Mapping[str, BytesLike]) -> Collection:
     written = run("json-collection", *files.values(), names=list(files))
     if not written.text.startswith(b"{"):
         raise CollectionRefused(written.text.decode().rstrip("\n"))
-    return _collection(json.loads(written.text, object_hook=_mask_or_fields))
+    fields = json.loads(written.text, object_hook=_mask_or_fields)
+    return _made(Collection, fields, items=_all(Item, fields["items"]),
+                 unexpected=_all(Found, fields["unexpected"]), logs=_all(Log, fields["logs"]),
+                 margin=_made(Least, fields["margin"]) if "margin" in fields else None)
 
 
 def as_object(written: bytes) -> Optional[Object]:

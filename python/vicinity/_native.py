@@ -80,7 +80,7 @@ def bytes_of(text: BytesLike) -> bytes:
                         f"not {type(text).__name__}") from None
 
 
-def text_of(text: BytesLike) -> tuple[bytes, int]:
+def sized(text: BytesLike) -> tuple[bytes, int]:
     """A text, or a frame, as a call takes it."""
     text = bytes_of(text)
     return text, len(text)

@@ -7,8 +7,6 @@ then a line is written to standard error, and the status is 4. Nothing goes thro
 or sys.stderr, so a closed or full stream is noticed at once, and no traceback is written.
 """
 import argparse
-import errno
-import io
 import locale
 import os
 import signal
@@ -23,6 +21,8 @@ from ._run import NO_ANSWER
 # 1,000,000 lines of 130 bytes, plus one.
 MOST_BYTES = 1_000_000 * 130 + 1
 PIECE = 1 << 16
+#: How text is written.
+UTF8 = "utf-8", "backslashreplace"
 #: The status where an input is refused.
 REFUSED = 3
 #: What the words of a command ask for, as `__main__` has read them.
@@ -78,21 +78,12 @@ def read(name: str, most: int = sys.maxsize) -> bytes:
         with open(os.dup(0) if name == "-" else name, "rb", buffering=0) as file:
             pieces, left, wanted = [], most, max(PIECE, os.fstat(file.fileno()).st_size)
             # a file in one piece: joining pieces takes the memory twice
-            while left > 0 and (piece := _piece(file, min(wanted, left))):
+            while left > 0 and (piece := os.read(file.fileno(), min(wanted, left))):
                 pieces.append(piece)
                 left, wanted = left - len(piece), PIECE
             return b"".join(pieces)
     except OSError as error:
         raise NoAnswer(f"cannot read {shown(name)}: {error.strerror}") from None
-
-
-def _piece(file: io.FileIO, most: int) -> bytes:
-    """The next bytes of a file, none at its end. Where a pipe isn't waited for, it may say
-    that there are none yet."""
-    piece = file.read(most)
-    if piece is None:
-        raise BlockingIOError(errno.EAGAIN, os.strerror(errno.EAGAIN))
-    return piece
 
 
 def read_log(name: str) -> bytes:
@@ -130,7 +121,7 @@ def write(pieces: Iterable[Union[str, bytes]]) -> None:
     """Writes bytes, and text as UTF-8, to standard output as it comes."""
     waiting = bytearray()
     for piece in pieces:
-        waiting += _encoded(piece) if isinstance(piece, str) else piece
+        waiting += piece.encode(*UTF8) if isinstance(piece, str) else piece
         if len(waiting) >= PIECE:
             _write_out(waiting)
     _write_out(waiting)
@@ -142,10 +133,6 @@ def _write_out(waiting: bytearray) -> None:
             del waiting[:os.write(1, waiting)]
     except OSError as error:
         raise NoAnswer(f"write failed: {error.strerror}") from None
-
-
-def _encoded(text: str) -> bytes:
-    return text.encode("utf-8", "backslashreplace")
 
 
 def shown(name: Union[str, bytes]) -> str:
@@ -170,7 +157,7 @@ def tell_terminal(lines: Iterable[str]) -> None:
 def _note(*pieces: str) -> None:
     """Writes to standard error, if it can."""
     with suppress(OSError, MemoryError):
-        os.write(2, _encoded("".join(pieces)))
+        os.write(2, "".join(pieces).encode(*UTF8))
 
 
 def has_colours() -> bool:

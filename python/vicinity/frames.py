@@ -6,7 +6,7 @@ from typing import NamedTuple, Union
 
 from ._answers import Fault, Mask
 from ._native import (BytesLike, FrameStruct, LineStruct, MaskStruct, ReplyStruct, RequestStruct,
-                      library, name_of, text_of)
+                      library, name_of, sized)
 
 #: The first line of a log.
 HEADER_LINE = b"vicinity-log 3\n"
@@ -75,13 +75,13 @@ class Reply(NamedTuple):
 
 def read_request(frame: BytesLike) -> Request:
     """The fields of a request's frame, CRC included. Raises FrameFault if it isn't one."""
-    fields = _filled("read_request", RequestStruct(), *text_of(frame))
+    fields = _filled("read_request", RequestStruct(), *sized(frame))
     return Request(fields.link, fields.slots, Mask(fields.mask_len, fields.mask_value), fields.uid)
 
 
 def read_response(frame: BytesLike) -> Reply:
     """The fields of a reply's frame, CRC included. Raises FrameFault if it isn't one."""
-    fields = _filled("read_response", ReplyStruct(), *text_of(frame))
+    fields = _filled("read_response", ReplyStruct(), *sized(frame))
     return Reply(fields.flags, fields.dsfid, fields.uid)
 
 
@@ -108,7 +108,7 @@ def write_response(flags: int, dsfid: int, uid: int) -> bytes:
 def add_crc(content: BytesLike) -> bytes:
     """At most 14 bytes with their CRC after them: a frame whose CRC the reader's chip removed.
     Raises ValueError if there are more."""
-    return _frame("add_crc", *text_of(content))
+    return _frame("add_crc", *sized(content))
 
 
 def write_line(letter: str, frame: BytesLike = b"", uid: int = 0) -> bytes:
@@ -117,7 +117,7 @@ def write_line(letter: str, frame: BytesLike = b"", uid: int = 0) -> bytes:
     Raises ValueError, with the name of the refusal and what is asked, if there is no such line."""
     if not (isinstance(letter, str) and len(letter) == 1 and letter.isascii()):
         raise ValueError(f"WrongLetter: {WANTED['WrongLetter']}, not {letter!r}")
-    return bytes(_filled("write_line", LineStruct(), ord(letter), *text_of(frame), uid).text)
+    return bytes(_filled("write_line", LineStruct(), ord(letter), *sized(frame), uid).text)
 
 
 def slot_mask(slots: int, mask: Mask, slot: int) -> Mask:

@@ -41,7 +41,7 @@ def as_uid(mask):
     return TOP_BYTE | mask[1]
 
 
-def hex_of(length, value):
+def mask_digits(length, value):
     return "%0*X" % ((length + 7) // 8 * 2, value) if length else "-"
 
 

@@ -16,7 +16,7 @@ from helpers.program import TOP
 FOLDER = TOP / "tests/data/collections"
 
 
-def text_of(parts):
+def unpacked(parts):
     """The bytes of a text of a row."""
     parts = [parts] if isinstance(parts, str) else parts
     return b"".join(part.encode("latin-1") if isinstance(part, str)
@@ -33,8 +33,8 @@ def rows():
                     id=f"{page.stem}: {row['name']}, {command}")
 
 
-def texts_of(row):
-    return {**{name: text_of(text) for name, text in row.get("texts", {}).items()},
+def files_of(row):
+    return {**{name: unpacked(text) for name, text in row.get("texts", {}).items()},
             **{name: log_of(names) for name, names in row.get("logs", {}).items()}}
 
 
@@ -68,7 +68,7 @@ def is_right(answer, said):
     if "object" in answer:
         return out.decode() in [f"{collections.json_of(one)}\n"
                                 for one in choices(answer["object"])]
-    return out == text_of(answer.get("out", ""))
+    return out == unpacked(answer.get("out", ""))
 
 
 def reader(texts):

@@ -7,7 +7,7 @@ import re
 from typing import NamedTuple
 
 from helpers import log_reader, surveys, tables
-from helpers.air import UID_BITS, Listed, greatest, hex_of, lies_in
+from helpers.air import UID_BITS, Listed, greatest, lies_in, mask_digits
 from helpers.reports import open_lines
 
 MARK = b"\xef\xbb\xbf"
@@ -195,7 +195,7 @@ class Collection:
             yield line, [line, f"by line {log.certain[uid][0]} of {log.name}"]
         mask = self.unsettled()
         if mask:
-            line = f"unsettled {surveys.said(mask)}"
+            line = f"unsettled {surveys.mask_words(mask)}"
             yield line, [line, *(f"{told} in {log.name}" for at, log in enumerate(self.logs)
                                  for told in open_lines(self.open(at)))]
         for kind in ("doubtful", "misplaced", "returned", "not counted"):
@@ -250,7 +250,7 @@ class Collection:
         if status == 0 and self.logs:
             at = min(range(len(self.logs)), key=lambda at: self.logs[at].margin)
             told["margin"] = {"margin": self.logs[at].margin,
-                              "weakest": mask_of(self.logs[at].weakest), "log": at}
+                              "weakest": mask_object(self.logs[at].weakest), "log": at}
         counts = {state: self.states.count(state) for state in STATES}
         return told | {
             "counts": counts | {"unexpected": len(self.unexpected)},
@@ -258,7 +258,7 @@ class Collection:
             "items": [self.item(*one) for one in zip(self.catalogue.items, self.states)],
             "unexpected": [self.found(uid) | {"line": self.logs[self.certain_in(uid)[0]]
                                               .certain[uid][0]} for uid in self.unexpected],
-            "unsettled": mask_of(self.unsettled()), "without_log": self.without_log,
+            "unsettled": mask_object(self.unsettled()), "without_log": self.without_log,
             "logs": [self.log(at, log) for at, log in enumerate(self.logs)]}
 
     def found(self, uid):
@@ -280,13 +280,13 @@ class Collection:
         return told | {
             "answers": log.answers, "certain": len(log.certain),
             "shared": sum(len(self.certain_in(uid)) > 1 for uid in log.certain),
-            "open": list(map(mask_of, masks[:MOST_OPEN])), "more": len(masks) > MOST_OPEN,
-            "margin": log.margin, "weakest": mask_of(log.weakest),
-            "hidden": mask_of(log.hidden), "deaf": mask_of(log.deaf)}
+            "open": list(map(mask_object, masks[:MOST_OPEN])), "more": len(masks) > MOST_OPEN,
+            "margin": log.margin, "weakest": mask_object(log.weakest),
+            "hidden": mask_object(log.hidden), "deaf": mask_object(log.deaf)}
 
 
-def mask_of(mask):
-    return mask and {"mask_len": mask[0], "mask_value": hex_of(*mask)}
+def mask_object(mask):
+    return mask and {"mask_len": mask[0], "mask_value": mask_digits(*mask)}
 
 
 def quoted(cell, separator):
@@ -358,7 +358,7 @@ def by_list(name, text, files, survey):
 
 # The commands.
 
-def told(command, words, read, survey=surveys.of):
+def run(command, words, read, survey=surveys.of):
     """What a command writes on standard output and error, and its status. `read` has the text of a
     file, `survey` what a log says."""
     try:
@@ -384,8 +384,7 @@ def written(command, words, read, survey):
     files = [(name, read(name)) for name in named(words)]
     if command == "survey":
         logs = [survey(*one) for one in files]
-        statuses = {"p": 0, "i": 2, "r": 3}
-        return surveys.text_of(logs), b"", max(statuses[log.field[0]] for log in logs)
+        return surveys.written(logs), b"", max(log.status for log in logs)
     collection = gathered(files, survey)
     if command == "reconcile":
         return as_lines(collection)

@@ -6,7 +6,7 @@ The first lines of each log leave the same eight UIDs that may be in its field. 
 256 populations that could have produced it. A UID is somewhere in a family if one of its
 populations, one for each of up to three logs, has it; all families are tried. What is possible and
 certain, and every finding, is read off them."""
-from helpers.air import TOP_BYTE, UID_BITS, Listed, as_mask, greatest, hex_of
+from helpers.air import TOP_BYTE, UID_BITS, Listed, as_mask, greatest, mask_digits
 from helpers.oracle import Judge
 from helpers.random_logs import eight_uids, ended, opening, rounds
 from helpers.reports import open_lines
@@ -88,7 +88,7 @@ class Families:
             yield f"by line ? of {self.first(uid, [known for _, known in each])}"
         unsettled = greatest(map(as_mask, possible - certain - set(self.expected)))
         if unsettled:
-            yield "unsettled %d %s" % (unsettled[0][0], hex_of(*unsettled[0]))
+            yield "unsettled %d %s" % (unsettled[0][0], mask_digits(*unsettled[0]))
             for name, (may, _) in zip(NAMES, each):
                 masks = greatest(map(as_mask, self.asked_in(may, certain)))
                 yield from (f"{line} in {name}" for line in open_lines(masks))

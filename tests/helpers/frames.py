@@ -22,10 +22,10 @@ def hex_of(body: Sequence[int]) -> str:
     return with_crc(body).hex().upper()
 
 
-def inventory(chance: Random) -> Made:
-    link, slots = chance.randrange(4), chance.choice((1, 16))
-    bits = chance.randrange(61 if slots == 16 else 65)
-    value = chance.getrandbits(bits)
+def inventory(rng: Random) -> Made:
+    link, slots = rng.randrange(4), rng.choice((1, 16))
+    bits = rng.randrange(61 if slots == 16 else 65)
+    value = rng.getrandbits(bits)
     size = (bits + 7) // 8
     digits = value.to_bytes(size, "big").hex().upper() or "-"
     body = [(0x04 if slots == 16 else 0x24) + link, 1, bits, *value.to_bytes(size, "little")]
@@ -33,14 +33,14 @@ def inventory(chance: Random) -> Made:
             (link, slots, bits, value))
 
 
-def stay_quiet(chance: Random) -> Made:
-    link, uid = chance.randrange(4), chance.getrandbits(64)
+def stay_quiet(rng: Random) -> Made:
+    link, uid = rng.randrange(4), rng.getrandbits(64)
     return (hex_of([0x20 + link, 2, *uid.to_bytes(8, "little")]),
             f"request stay-quiet link {link} uid {uid:016X}", (link, uid))
 
 
-def reply(chance: Random) -> Made:
-    flags, dsfid = chance.randrange(0, 256, 2), chance.randrange(256)
-    uid = 0xE0 << 56 | chance.getrandbits(56)
+def reply(rng: Random) -> Made:
+    flags, dsfid = rng.randrange(0, 256, 2), rng.randrange(256)
+    uid = 0xE0 << 56 | rng.getrandbits(56)
     return (hex_of([flags, dsfid, *uid.to_bytes(8, "little")]),
             f"response flags {flags:02X} dsfid {dsfid:02X} uid {uid:016X}", (flags, dsfid, uid))

@@ -39,7 +39,7 @@ def session(rng):
     return lines + [uid for uid in LISTED if rng.randrange(2)]
 
 
-def changed(rng, seeds):
+def changed_log(rng, seeds):
     """A session; or a log of a few lines, or one of the seeds, with up to three changes."""
     kind = rng.randrange(3)
     if kind == 0:

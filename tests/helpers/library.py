@@ -31,7 +31,7 @@ def answer_to(line, fault=0):
     if kind == "complete":
         told.count = int(words[0])
     elif kind == "unsettled":
-        told.mask_len, told.mask_value = mask_of(words)
+        told.mask_len, told.mask_value = mask_in(words)
     elif kind in STATUSES:
         told.line = int(words[2].rstrip(":"))
     else:
@@ -39,7 +39,7 @@ def answer_to(line, fault=0):
     return told
 
 
-def mask_of(words):
+def mask_in(words):
     """The mask of the words `L V`."""
     return int(words[0]), int(words[1].replace("-", "0"), 16)
 
@@ -52,7 +52,7 @@ def findings_of(lines):
         if kind in ("absent", "unlisted", "doubtful"):
             found.append(FindingStruct(Kind[kind.upper()], uid=int(words[0], 16)))
         elif kind in ("unsettled", "open"):
-            number, (length, value) = UNSETTLED if kind == "unsettled" else OPEN, mask_of(words)
+            number, (length, value) = UNSETTLED if kind == "unsettled" else OPEN, mask_in(words)
             found.append(FindingStruct(number, mask_len=length, mask_value=value))
         elif kind == "more":
             found.append(FindingStruct(MORE))
@@ -122,7 +122,7 @@ class Library:
         return told
 
 
-def run_of(command, texts, names=None):
+def run_arguments(command, texts, names=None):
     """What `run` is given for a command over texts, by the header."""
     names = [b"" for _ in texts] if names is None else names
     return (U32(1 + COMMANDS.index(command)), b"".join(name + b"\n" for name in names),
@@ -146,7 +146,7 @@ class OneCall:
             texts = [(cwd / word).read_bytes() for word in words]
             if not words:
                 names, texts = [b""], [given]
-        told = run_of(command, texts, None if command in ("frame", "spell") else names)
+        told = run_arguments(command, texts, None if command in ("frame", "spell") else names)
         status, needed, _ = self.library.into(0, "run", *told)
         again, same, room = self.library.into(needed, "run", *told)
         assert (again, same) == (status, needed)

@@ -21,7 +21,7 @@ NAMES = {name: f"{letter} {digits}" for _, line in rows("lines") for name, lette
          digits in [line.split()[:3]]}
 
 
-def lines_of(name):
+def lines_named(name):
     """The lines of a short name."""
     if name == "empty":
         return [""]
@@ -35,7 +35,7 @@ def text_of(lines):
     return "".join(f"{line}\n" for line in lines).encode()
 
 
-def spelled(parts):
+def unquoted(parts):
     """The text of parts in quotation marks."""
     assert not PART.sub("", parts).strip(" +"), f"no text: {parts}"
     return b"".join(part.encode().decode("unicode_escape").encode() * int(count or 1)
@@ -46,12 +46,12 @@ def log_lines(given):
     """The lines of a log by its names, of which the first may be its version, as `V2`."""
     names = given.split()
     version = names.pop(0)[1:] if names and names[0][0] == "V" else 1
-    return [f"vicinity-log {version}"] + [line for name in names for line in lines_of(name)]
+    return [f"vicinity-log {version}"] + [line for name in names for line in lines_named(name)]
 
 
 def log_of(given):
     """The text of a log, by its names or in quotation marks."""
-    return spelled(given) if given.startswith('"') else text_of(log_lines(given))
+    return unquoted(given) if given.startswith('"') else text_of(log_lines(given))
 
 
 def biglog(shape, size):

@@ -5,8 +5,8 @@ enough."""
 import collections
 
 from helpers.air import (FIELD_CYCLE, UID_BITS, Listed, StayQuiet, answers, as_mask, as_uid,
-                         divided, greatest, hex_of, lies_in, slots_of)
-from helpers.random_logs import spelled
+                         divided, greatest, mask_digits, lies_in, slots_of)
+from helpers.random_logs import line_text
 from helpers.reports import is_reply
 
 # The margin of a log, and the length and the value of its weakest mask.
@@ -23,7 +23,7 @@ class Margins:
 
     def slots_of(self, lines):
         """Those that were silent, or in which one tag was heard alone."""
-        return [slot for slot in slots_of(lines) if spelled(slot.line)[0] in self.counted]
+        return [slot for slot in slots_of(lines) if line_text(slot.line)[0] in self.counted]
 
     def is_overlooked(self, slot, uid):
         return answers(slot, uid) and not is_reply(slot.line, uid)
@@ -60,10 +60,10 @@ class Margins:
 
     def is_answer(self, slot):
         """Whether a tag answered in the slot."""
-        return spelled(slot.line)[0] in "RHCD"
+        return line_text(slot.line)[0] in "RHCD"
 
     def silent(self):
-        return [slot for slot in self.slots if spelled(slot.line) == "S"]
+        return [slot for slot in self.slots if line_text(slot.line) == "S"]
 
     def heard_last(self, lines):
         """The number of the last line in which a tag answered, 0 if there is none."""
@@ -87,8 +87,8 @@ class Margins:
         if not answer.startswith("complete"):
             return [answer]
         margin, *mask = self.weakest()
-        return [answer, f"margin {margin}", "weakest %d %s" % (mask[0], hex_of(*mask)), *(
-            f"{name} %d %s" % (mask[0], hex_of(*mask)) if mask else f"{name} -"
+        return [answer, f"margin {margin}", "weakest %d %s" % (mask[0], mask_digits(*mask)), *(
+            f"{name} %d %s" % (mask[0], mask_digits(*mask)) if mask else f"{name} -"
             for name, mask in zip(("hidden", "deaf"), self.readings(lines)))]
 
 
@@ -125,10 +125,10 @@ WRONG = {
     "a silence behind the last answer stays": wrong(heard_last=lambda self, lines: len(lines) + 2),
     "all silence is behind the last answer": wrong(heard_last=lambda self, lines: 0),
     "a captured reply is no answer": wrong(
-        is_answer=lambda self, slot: spelled(slot.line)[0] in "RCD"),
+        is_answer=lambda self, slot: line_text(slot.line)[0] in "RCD"),
     "an unknown slot is an answer": wrong(
-        is_answer=lambda self, slot: spelled(slot.line)[0] in "RHCDN"),
+        is_answer=lambda self, slot: line_text(slot.line)[0] in "RHCDN"),
     "a Stay Quiet is an answer": wrong(heard_last=lambda self, lines: max(
         (number for number, line in enumerate(lines, 2)
-         if isinstance(line, StayQuiet) or spelled(line)[:1] in tuple("RHCD")), default=0)),
+         if isinstance(line, StayQuiet) or line_text(line)[:1] in tuple("RHCD")), default=0)),
 }

@@ -13,7 +13,7 @@ import functools
 from helpers import reports
 from helpers.air import (COLLISION, FIELD_CYCLE, GARBLED, SILENT, UNKNOWN, Ask, Reply, answers,
                          as_mask, fits, is_slot, lies_in, slots_of)
-from helpers.random_logs import LEFT, text_of
+from helpers.random_logs import LEFT, log_text
 from helpers.reports import Known, Report
 
 ALL = 2**LEFT - 1
@@ -183,7 +183,7 @@ class Case:
 
     @functools.cached_property
     def text(self):
-        return text_of(self.version, self.lines)
+        return log_text(self.version, self.lines)
 
     def wrong_answer(self, given, shown):
         """Why an answer, and the population that is shown, are wrong, if so."""

@@ -8,7 +8,7 @@ from helpers import surveys
 from helpers.air import (FIELD_CYCLE, SILENT, Ask, Reply, StayQuiet, as_mask, lies_in,
                          slot_mask)
 from helpers.collections import kind_of
-from helpers.random_logs import eight_uids, opening, outcome, request, text_of, weaker
+from helpers.random_logs import eight_uids, log_text, outcome, request, weaker
 
 NAMES = ["a.log", "b.log", "C5.log", "x/a.log", "x/C5", "y/a.txt", "b", "d\\b.log", ".c", "c.5.log",
          "Gr\u00f6\u00dfe.log", 'q"1".log', "e;f, g.log", " h.log", "i.log ", "\u66f8\u67b6 3.log"]
@@ -66,12 +66,13 @@ def spoiled(rng, version, uids, lines):
     return lines + [Ask(False, 0, 0), rng.choice((SILENT, Reply(rng.choice(uids))))]
 
 
-def log_of(rng, uids, there, errors):
+def reader_log(rng, uids, there, errors):
+    """The text of the log of a search, now and then spoiled."""
     version = rng.randint(1, 3)
     lines = search(rng, version, uids, there)
     if rng.random() < errors:
         lines = spoiled(rng, version, uids, lines)
-    text = text_of(version, lines)
+    text = log_text(version, lines)
     if rng.random() < errors / 8:
         text = rng.choice((b"", text[:rng.randrange(len(text))], b"\xef\xbb\xbf" + text,
                            text.replace(b"T", b"t", 1), text.replace(b"\n", b"\r\n")))
@@ -80,13 +81,14 @@ def log_of(rng, uids, there, errors):
 
 # Tables.
 
-def spelled(rng, uid):
+def uid_cell(rng, uid):
+    """A UID as some spreadsheet has it."""
     digits = f"{uid:016X}"
     return rng.choice((digits, digits, digits, digits.lower(), f" {digits}", f'"{digits}"',
                        ":".join(digits[at:at + 2] for at in range(0, 16, 2))))
 
 
-def quoted(rng, cell, separator):
+def text_cell(rng, cell, separator):
     if separator in cell or '"' in cell or rng.random() < 0.1:
         return '"%s"' % cell.replace('"', '""')
     return cell
@@ -98,7 +100,7 @@ def as_table(rng, names, rows):
     order = rng.sample(range(len(names)), len(names))
     lines = [separator.join(rng.choice((names[at], names[at].upper())) for at in order)]
     for row in rows:
-        cells = [row[at] if row[at].startswith('"') else quoted(rng, row[at], separator)
+        cells = [row[at] if row[at].startswith('"') else text_cell(rng, row[at], separator)
                  for at in order]
         lines.append(separator.join(cells))
         lines += [separator * (len(names) - 1)] * (rng.random() < 0.05)
@@ -118,7 +120,7 @@ def catalogue_of(rng, fields, place_of, errors):
     rows = []
     for uid in sorted({uid for there in fields.values() for uid in there}):
         where = sorted(place_of[name] for name, there in fields.items() if uid in there)
-        rows.append([spelled(rng, uid), rng.choice(where), ""])
+        rows.append([uid_cell(rng, uid), rng.choice(where), ""])
     places = sorted(place_of.values()) or ["any"]
     for row in rows:
         if rng.random() < errors:
@@ -126,7 +128,7 @@ def catalogue_of(rng, fields, place_of, errors):
         if rng.random() < errors / 3:
             row[2] = rng.choice(("away", "Away", "away", "lent"))
     rows = [row for row in rows if rng.random() >= errors / 2]
-    rows += [[rng.choice(("none", "None", spelled(rng, 0xE0 << 56 | rng.getrandbits(56)))),
+    rows += [[rng.choice(("none", "None", uid_cell(rng, 0xE0 << 56 | rng.getrandbits(56)))),
               rng.choice((*places, "any", "nowhere")), rng.choice(("", "away"))]
              for _ in range(rng.choice((0, 0, 1, 2)) if errors else 0)]
     rng.shuffle(rows)
@@ -156,7 +158,7 @@ def case_of(rng):
     names = rng.sample(NAMES[:6] if errors > 0.3 else NAMES, rng.choice((0, 1, 2, 3, 3, 4, 4)))
     fields = {name: {uid for uid in uids if rng.random() < 0.35} for name in names}
     place_of, places = place_names(rng, names, errors)
-    files = {name: log_of(rng, uids, there, errors) for name, there in fields.items()}
+    files = {name: reader_log(rng, uids, there, errors) for name, there in fields.items()}
     words = rng.sample(names, len(names))
     if names and rng.random() < 0.3:
         words = put_together(rng, files, words, errors)
@@ -176,14 +178,14 @@ def case_of(rng):
 def put_together(rng, files, names, errors):
     """Some of the logs as surveys in one file."""
     some = rng.sample(names, rng.randint(1, len(names)))
-    text = surveys.text_of([surveys.of(name, files[name]) for name in some])
-    files["all"] = changed(rng, [text]) if rng.random() < errors / 2 else text
+    text = surveys.written([surveys.of(name, files[name]) for name in some])
+    files["all"] = spliced(rng, [text]) if rng.random() < errors / 2 else text
     rest = [name for name in names if name not in some]
     rest.insert(rng.randint(0, len(rest)), "all")
     return rest
 
 
-def changed(rng, texts):
+def spliced(rng, texts):
     """A text of surveys with a byte, a line or a block changed, lost, doubled or moved, or two
     texts spliced."""
     text, kind = rng.choice(texts), rng.randrange(4)
@@ -223,49 +225,12 @@ def seed_texts(rng):
     for _ in range(SEEDS):
         logs = [(name, text) for name, text in case_of(rng).files.items()
                 if kind_of(text) == "log"]
-        yield surveys.text_of([surveys.of(*log) for log in logs])
+        yield surveys.written([surveys.of(*log) for log in logs])
 
 
 def changed_texts(rng, number):
     """Of the changed ones some have their ends put right."""
     texts = [text for text in seed_texts(rng) if text]
     for _ in range(number):
-        text = changed(rng, texts)
+        text = spliced(rng, texts)
         yield sealed_anew(text) if rng.random() < 0.7 else text
-
-
-# Small worlds, of which every family of populations can be tried.
-
-class World(NamedTuple):
-    """Eight UIDs, of which all tags are, the lines of each log, and the items: of each its UID or
-    none, its place or none, and whether it is away."""
-    uids: list
-    lines: dict
-    items: list
-    case: Case
-
-
-def world_of(rng):
-    """Up to three logs of the same eight UIDs, and a catalogue that is mostly right."""
-    uids, errors = eight_uids(rng), rng.choice((0, 0, 0.1, 0.3))
-    names = rng.sample(["a.log", "b.log", "x/c.log"], rng.randint(1, 3))
-    lines, files, there = {}, {}, {}
-    for name in names:
-        there[name] = {uid for uid in uids if rng.random() < 0.4}
-        version = rng.randint(1, 3)
-        lines[name] = opening(rng, version, uids)[0] + search(rng, version, uids, there[name])
-        if rng.random() < errors:
-            lines[name] = spoiled(rng, version, uids, lines[name])
-        files[name] = text_of(version, lines[name])
-    items = [item_of(rng, uid, [name for name in names if uid in there[name]], names, errors)
-             for uid in uids if rng.random() < errors / 3 or any(uid in it for it in there.values())
-             and rng.random() >= errors / 3]
-    rows = [[f"{uid:016X}", place or "any", "away" if away else ""] for uid, place, away in items]
-    files["K"] = as_table(rng, ["uid", "place", "away"], rows or [["none", "any", ""]])
-    return World(uids, lines, items, Case(files, ["K", *names]))
-
-
-def item_of(rng, uid, where, names, errors):
-    name = rng.choice(names if rng.random() < errors or not where else where)
-    place = rng.choice((name[-5], name[-5], name[-5], None))
-    return uid, place, rng.random() < (errors / 2 if where else 0.8)

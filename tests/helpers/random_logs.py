@@ -8,7 +8,7 @@ import sys
 
 from helpers.air import (COLLISION, FIELD_CYCLE, GARBLED, SILENT, TOP_BYTE, UID_BITS, UNKNOWN, Ask,
                          Listed, Reply, StayQuiet, as_mask, divided, is_slot, lies_in, slot_mask)
-from helpers.frames import hex_of as digits_of
+from helpers.frames import hex_of
 
 LEFT = 8
 # UIDs that have so many low bits in common are left by some hundred silent slots; others by Stay
@@ -21,23 +21,23 @@ WEAKENED_SHARE = 0.3
 PASSED_OVER = ("", "# a remark")
 
 
-def spelled(line):
+def line_text(line):
     if isinstance(line, Ask):
         flags = 0x06 if line.sixteen else 0x26
         value = line.value.to_bytes((line.length + 7) // 8, "little")
-        return "T " + digits_of(bytes((flags, 1, line.length)) + value)
+        return "T " + hex_of(bytes((flags, 1, line.length)) + value)
     if isinstance(line, StayQuiet):
-        return "T " + digits_of(b"\x22\x02" + line.uid.to_bytes(8, "little"))
+        return "T " + hex_of(b"\x22\x02" + line.uid.to_bytes(8, "little"))
     if isinstance(line, Reply):
-        return "RH"[line.captured] + " " + digits_of(b"\x00\x07" + line.uid.to_bytes(8, "little"))
+        return "RH"[line.captured] + " " + hex_of(b"\x00\x07" + line.uid.to_bytes(8, "little"))
     if isinstance(line, Listed):
         return "U %016X" % line.uid
     return line
 
 
-def text_of(version, lines):
+def log_text(version, lines):
     return "".join(f"{line}\n" for line in [f"vicinity-log {version}",
-                                            *map(spelled, lines)]).encode()
+                                            *map(line_text, lines)]).encode()
 
 
 # Random logs.

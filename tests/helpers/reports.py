@@ -9,7 +9,7 @@ this one fails, each does.
 import collections
 
 from helpers.air import (FIELD_CYCLE, LEAST, SILENT, UID_BITS, UNKNOWN, Listed, Reply, StayQuiet,
-                         answers, as_mask, as_uid, fits, greatest, hex_of, lies_in, slots_of)
+                         answers, as_mask, as_uid, fits, greatest, mask_digits, lies_in, slots_of)
 
 MOST_OPEN = 16
 
@@ -30,7 +30,7 @@ def rules_out(slot, uid):
 
 def open_lines(masks):
     """The lines of the first open masks, and whether there are more."""
-    return ["open %d %s" % (mask[0], hex_of(*mask)) for mask in masks[:MOST_OPEN]] + (
+    return ["open %d %s" % (mask[0], mask_digits(*mask)) for mask in masks[:MOST_OPEN]] + (
         ["more open"] * (len(masks) > MOST_OPEN))
 
 
@@ -181,7 +181,7 @@ class Report:
         unsettled = greatest(left - set(map(as_mask, self.listed)))
         if unsettled:
             mask = self.unsettled(unsettled)
-            yield ["unsettled %d %s" % (mask[0], hex_of(*mask))]
+            yield ["unsettled %d %s" % (mask[0], mask_digits(*mask))]
             yield from ([line] for line in self.open(greatest(left)))
         for uid in self.doubtful():
             yield [f"doubtful {uid:016X}"]

@@ -20,7 +20,7 @@ from vicinity import Fault
 from vicinity._native import AnswerStruct
 
 from helpers.library import answer_to, findings_of, uids
-from helpers.lines import NAMES, log_of, rows, spelled, text_of
+from helpers.lines import NAMES, log_of, rows, text_of, unquoted
 
 # Who is asked, by the names of their fixtures.
 PROGRAMS = ("program", "commands", "arm")
@@ -49,7 +49,7 @@ def all_rows(asked, but=()):
 
 def answer_of(given):
     """The lines of an answer, which may be a log."""
-    return spelled(given) if given.startswith('"') else text_of(given.split(" / "))
+    return unquoted(given) if given.startswith('"') else text_of(given.split(" / "))
 
 
 class OfProgram:
@@ -90,7 +90,7 @@ class OfProgram:
         assert self.begins(filled) == answer_of(answers[1])
 
     def frame(self, given, answers, status):
-        word = spelled(given).decode() if given.startswith('"') else given
+        word = unquoted(given).decode() if given.startswith('"') else given
         lines = answer_of(answers[0])
         assert self.said("frame", word) == (lines, status)
         for line in lines.decode().splitlines():

@@ -4,10 +4,10 @@ from typing import NamedTuple
 
 from helpers import families, random_collections
 from helpers.air import Listed
-from helpers.fuzz import changed
+from helpers.fuzz import changed_log
 from helpers.names import OPERANDS
 from helpers.program import TOP
-from helpers.random_logs import random_log, text_of
+from helpers.random_logs import log_text, random_log
 
 COMMANDS = [*OPERANDS]
 SEEDS = [log.read_bytes() for log in sorted(TOP.glob("examples/*.log"))]
@@ -32,64 +32,64 @@ class Run(NamedTuple):
     given: bytes = b""
 
 
-def run_of(chance, command):
+def random_run(rng, command):
     """A run of a command."""
     if OPERANDS[command] == "[FILE]":
-        text = log_of(chance)
-        if command == "simulate" and chance.randrange(4):
+        text = random_text(rng)
+        if command == "simulate" and rng.randrange(4):
             text = b"\n".join(line for line in text.split(b"\n") if line[:1] not in OUTCOMES)
-        return Run(["log"], {"log": text}) if chance.randrange(2) else Run([], given=text)
+        return Run(["log"], {"log": text}) if rng.randrange(2) else Run([], given=text)
     if command in ("frame", "spell"):
-        return Run(words_of(chance, command))
-    return over_files(chance, command)
+        return Run(words_of(rng, command))
+    return over_files(rng, command)
 
 
-def log_of(chance):
+def random_text(rng):
     """The text of a log: a true one, a random one, or a damaged one."""
-    if not chance.randrange(4):
-        return changed(chance, SEEDS)
-    version = chance.randint(1, 3)
-    text = text_of(version, random_log(chance, version)[1])
-    return random_collections.changed(chance, [text]) if not chance.randrange(3) else text
+    if not rng.randrange(4):
+        return changed_log(rng, SEEDS)
+    version = rng.randint(1, 3)
+    text = log_text(version, random_log(rng, version)[1])
+    return random_collections.spliced(rng, [text]) if not rng.randrange(3) else text
 
 
-def words_of(chance, command):
+def words_of(rng, command):
     """A frame, or the words of one, of which some are changed."""
     if command == "spell":
-        words, put_in = list(chance.choice(SPELLED)), PUT_IN
+        words, put_in = list(rng.choice(SPELLED)), PUT_IN
     else:
-        lines = text_of(1, random_log(chance, 1)[1]).decode().split()
-        words = list(chance.choice([word for word in lines if len(word) > 8]))
+        lines = log_text(1, random_log(rng, 1)[1]).decode().split()
+        words = list(rng.choice([word for word in lines if len(word) > 8]))
         put_in = list("0123456789ABCDEFabcdef ")
-    for _ in range(chance.randrange(3)):
-        words[chance.randrange(len(words))] = chance.choice(put_in)
-    if not chance.randrange(8):
-        del words[-chance.randrange(1, 4):]
+    for _ in range(rng.randrange(3)):
+        words[rng.randrange(len(words))] = rng.choice(put_in)
+    if not rng.randrange(8):
+        del words[-rng.randrange(1, 4):]
     return words if command == "spell" else ["".join(words)]
 
 
-def over_files(chance, command):
+def over_files(rng, command):
     """A list and logs; or a collection, of which `survey` has the logs."""
-    if command == "reconcile" and chance.randrange(2):
-        _, expected, logs = families.case_of(chance)
-        texts = [text_of(1, map(Listed, expected)), *(text_of(*log) for log in logs)]
-        long = "x" * chance.choice((0, 0, 200))
+    if command == "reconcile" and rng.randrange(2):
+        _, expected, logs = families.case_of(rng)
+        texts = [log_text(1, map(Listed, expected)), *(log_text(*log) for log in logs)]
+        long = "x" * rng.choice((0, 0, 200))
         files = {f"{long}{name}": text for name, text in zip(("list", *families.NAMES), texts)}
         words = [*files]
     else:
-        files, words = collection(chance)
+        files, words = collection(rng)
         logs = [word for word in words if random_collections.kind_of(files[word]) == "log"]
-        words = logs if command == "survey" and logs and chance.randrange(8) else words
-    if not chance.randrange(3):
-        name = chance.choice([name for name in files if files[name]])
-        files[name] = random_collections.changed(chance, [files[name]])
+        words = logs if command == "survey" and logs and rng.randrange(8) else words
+    if not rng.randrange(3):
+        name = rng.choice([name for name in files if files[name]])
+        files[name] = random_collections.spliced(rng, [files[name]])
     return Run(words, files)
 
 
-def collection(chance):
+def collection(rng):
     """A collection, each of whose words is a file on every system."""
     while True:
-        files, words = random_collections.case_of(chance)
+        files, words = random_collections.case_of(rng)
         if not any(NOWHERE & {*name} or name.endswith(" ") for name in files):
             return {**dict.fromkeys(words, b""), **files}, words
 
@@ -98,4 +98,4 @@ def runs_of(number, seed):
     """As many runs, each behind its command."""
     for index in range(number):
         command = COMMANDS[index % len(COMMANDS)]
-        yield command, run_of(random.Random(f"{seed} {index}"), command)
+        yield command, random_run(random.Random(f"{seed} {index}"), command)

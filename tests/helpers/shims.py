@@ -15,7 +15,7 @@ SHIMS = TOP / "tests/shims"
 USAGE = Said(b"", b"vicinity: usage\n", 4)
 
 
-def texts_of(command, words, given, cwd):
+def named_texts(command, words, given, cwd):
     """The names of the texts that a command is asked for, and the texts."""
     names = [os.fsdecode(word) for word in words]
     if command in ("frame", "spell"):
@@ -39,7 +39,7 @@ class ByPython:
 
     def run(self, command, *words, given=b"", name="vicinity", cwd=TOP):
         assert name == "vicinity"
-        names, texts = texts_of(command, words, given, cwd)
+        names, texts = named_texts(command, words, given, cwd)
         try:
             text, status = vicinity.run(command, *texts, names=names)
         except ValueError:
@@ -56,7 +56,7 @@ class ByJavaScript:
 
     def run(self, command, *words, given=b"", name="vicinity", cwd=TOP):
         assert name == "vicinity"
-        names, texts = texts_of(command, words, given, cwd)
+        names, texts = named_texts(command, words, given, cwd)
         asked = {"command": command, "texts": [
             {"name": one, "text": base64.b64encode(text).decode()}
             for one, text in zip(names, texts)]}

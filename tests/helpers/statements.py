@@ -61,7 +61,7 @@ class File:
         # the cases of kinds of values, each with its kind
         self.cases: dict[str, str] = {}
         for module, names in IMPORT.findall(self.text):
-            for listed in (n.strip() for n in names.split(",") if n.strip()):
+            for listed in filter(None, map(str.strip, names.split(","))):
                 first, _, alias = listed.partition(" as ")
                 self.imports[(alias or first).strip("◌")] = (module, first)
         self.aliases = {alias: module for module, alias in ALIAS.findall(self.text)}
@@ -152,7 +152,7 @@ def names_in(file: File, text: str) -> Iterator[tuple[str | None, str]]:
     if file.path.suffix == ".rt":
         for module, names in RUST_IMPORT.findall(file.text):
             crate = file.crate if module.startswith("crate") else module.split(":")[0]
-            for name in (n.strip() for n in names.split(",")):
+            for name in map(str.strip, names.split(",")):
                 if name and re.search(rf"\b{name}\b", text):
                     yield "rust:" + crate, name
 
@@ -162,8 +162,8 @@ def found_at(files: Files, file: File, module: str | None, name: str) -> tuple[F
     if module is None:
         return file, name
     if module.startswith("rust:"):
-        return next(((f, name) for key, f in files.items()
-                     if key.startswith("src:" + module[5:] + ".") and name in f.defined), None)
+        return next(((other, name) for key, other in files.items()
+                     if key.startswith("src:" + module[5:] + ".") and name in other.defined), None)
     return place_of(files, module, name)
 
 

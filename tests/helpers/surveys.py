@@ -8,7 +8,7 @@ import re
 from typing import NamedTuple
 
 from helpers import log_reader
-from helpers.air import SILENT, UID_BITS, UNKNOWN, Listed, Reply, greatest, hex_of, is_slot
+from helpers.air import SILENT, UID_BITS, UNKNOWN, Listed, Reply, greatest, is_slot, mask_digits
 from helpers.frames import with_crc
 from helpers.margins import Margins
 from helpers.reports import Report, known_of
@@ -16,6 +16,8 @@ from helpers.reports import Report, known_of
 MAX_LINE, MAX_NUMBER, MAX_NAME = 1_000_001, 999_999, 4096
 NUMBER = rb"(0|[1-9][0-9]*)"
 MASK = NUMBER + rb" (-|[0-9A-F]+)"
+# What `vicinity survey` ends with, by the first word of what a log says.
+STATUSES = {"possible": 0, "impossible": 2, "refused": 3}
 
 
 class Survey(NamedTuple):
@@ -33,6 +35,10 @@ class Survey(NamedTuple):
     @property
     def is_possible(self):
         return self.field == "possible"
+
+    @property
+    def status(self):
+        return STATUSES[self.field.split()[0]]
 
 
 class Fault(Exception):
@@ -91,24 +97,31 @@ def of(name, text):
                   tuple(weakest), first_more(hidden(lines), known), first_more(deaf(lines), known))
 
 
+def is_right(told, wanted):
+    """Whether a survey says what it has to; of several lines that show a UID one was chosen."""
+    return told._replace(certain=set(told.certain)) == wanted._replace(
+        certain=set(wanted.certain)) and all(
+            told.certain[uid][0] in lines for uid, lines in wanted.certain.items())
+
+
 # Its text.
 
-def said(mask):
-    return f"{mask[0]} {hex_of(*mask)}" if mask else "-"
+def mask_words(mask):
+    return f"{mask[0]} {mask_digits(*mask)}" if mask else "-"
 
 
-def lines_of(survey):
+def survey_lines(survey):
     yield f"vicinity-survey 1 {survey.name}"
     yield survey.field
     if survey.is_possible:
         yield f"answers {survey.answers}"
         yield from (f"certain {uid:016X} by line {lines[0]}"
                     for uid, lines in survey.certain.items())
-        yield from (f"open {said(mask)}" for mask in survey.open)
+        yield from (f"open {mask_words(mask)}" for mask in survey.open)
         yield f"margin {survey.margin}"
-        yield f"weakest {said(survey.weakest)}"
-        yield f"hidden {said(survey.hidden)}"
-        yield f"deaf {said(survey.deaf)}"
+        yield f"weakest {mask_words(survey.weakest)}"
+        yield f"hidden {mask_words(survey.hidden)}"
+        yield f"deaf {mask_words(survey.deaf)}"
 
 
 def sealed(lines):
@@ -118,8 +131,8 @@ def sealed(lines):
     return text + b"end %d %04X\n" % (text.count(b"\n") + 1, crc)
 
 
-def text_of(surveys):
-    return b"".join(sealed(lines_of(survey)) for survey in surveys)
+def written(surveys):
+    return b"".join(sealed(survey_lines(survey)) for survey in surveys)
 
 
 # What is read of it.
@@ -130,10 +143,11 @@ def number(digits, most, least=0):
     return value if least <= value <= most else None
 
 
-def mask_of(length, digits):
+def mask_read(length, digits):
     mask = number(length, UID_BITS), int(digits.replace(b"-", b"0"), 16)
-    is_right = mask[0] is not None and hex_of(*mask).encode() == digits and not mask[1] >> mask[0]
-    return mask if is_right else None
+    if mask[0] is None or mask_digits(*mask).encode() != digits or mask[1] >> mask[0]:
+        return None
+    return mask
 
 
 class Reader:
@@ -189,22 +203,29 @@ class Reader:
         return field.decode() if not digits or number(digits, MAX_LINE, 1) else None
 
     def possible(self):
-        answers = self.must(rb"answers " + NUMBER, lambda n: number(n, MAX_NUMBER))
+        answers = self.must(rb"answers " + NUMBER, self.number)
         certain = self.each(rb"certain (E0[0-9A-F]{14}) by line " + NUMBER, self.certain)
-        masks = self.each(rb"open " + MASK, lambda *mask: (mask_of(*mask),) * bool(mask_of(*mask)))
-        margin = self.must(rb"margin " + NUMBER, lambda n: number(n, MAX_NUMBER))
-        weakest = self.must(rb"weakest " + MASK, mask_of)
+        masks = self.each(rb"open " + MASK, self.open)
+        margin = self.must(rb"margin " + NUMBER, self.number)
+        weakest = self.must(rb"weakest " + MASK, mask_read)
         more = [self.must(word + rb" (?:-|%s)" % MASK, self.mask_or_none)
                 for word in (b"hidden", b"deaf")]
         return (answers, {uid: (line,) for uid, line in certain}, [mask for mask, in masks],
                 margin, weakest, *(mask or None for mask in more))
+
+    def number(self, digits):
+        return number(digits, MAX_NUMBER)
+
+    def open(self, length, digits):
+        mask = mask_read(length, digits)
+        return (mask,) * bool(mask)
 
     def certain(self, uid, line):
         return (int(uid, 16), int(line)) if number(line, MAX_LINE, 1) else None
 
     def mask_or_none(self, length, digits):
         """An empty one, where there is none."""
-        return () if length is None else mask_of(length, digits)
+        return () if length is None else mask_read(length, digits)
 
     def end(self, said):
         lines = b"".join(line + b"\n" for line in self.lines[self.start:self.at])

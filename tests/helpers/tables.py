@@ -14,7 +14,7 @@ def is_uid(number):
     return number >> 56 == 0xE0
 
 
-def spelled(cell):
+def uid_of(cell):
     """The UID that a cell spells, if any."""
     digits = re.sub(r"[ \t:-]", "", cell)
     if re.fullmatch("[0-9A-Fa-f]{16}", digits) and is_uid(int(digits, 16)):
@@ -22,11 +22,11 @@ def spelled(cell):
     return None
 
 
-def told(cell):
+def uids_in(cell):
     """The UIDs that a cell has or spells."""
     runs = re.findall("(?<![0-9A-Fa-f])[0-9A-Fa-f]{16}(?![0-9A-Fa-f])", cell)
     uids = {int(run, 16) for run in runs if is_uid(int(run, 16))}
-    return uids | ({spelled(cell)} - {None})
+    return uids | ({uid_of(cell)} - {None})
 
 
 def trimmed(cell):
@@ -84,7 +84,8 @@ def head(line):
     written = {"certain in", "may be in"}
     if any(name in written or name.startswith("vicinity ") for name in names):
         raise Fault("Result")
-    if kind == "catalogue" and any(told(cell) for cell, name in zip(cells, names) if name != "uid"):
+    if kind == "catalogue" and any(
+            uids_in(cell) for cell, name in zip(cells, names) if name != "uid"):
         raise Fault("UidElsewhere")
     return kind, separator, names
 
@@ -102,10 +103,10 @@ def row(kind, names, cells, seen):
             raise Fault("DuplicateLog")
         seen.add(log)
         return trimmed(cell["place"]), log
-    uid = spelled(cell["uid"])
+    uid = uid_of(cell["uid"])
     if uid is None and word(cell["uid"]) != "none":
         raise Fault("Uid")
-    if any(told(other) for other, name in zip(cells, names) if name != "uid"):
+    if any(uids_in(other) for other, name in zip(cells, names) if name != "uid"):
         raise Fault("UidElsewhere")
     if uid in seen:
         raise Fault("DuplicateUid")

@@ -1,7 +1,7 @@
 """Texts about which each kind of library is asked for every number (tests/c/answers.c)."""
 import random
 
-from helpers.fuzz import changed
+from helpers.fuzz import changed_log
 from helpers.lines import log_of, rows
 from helpers.program import TOP
 
@@ -15,4 +15,4 @@ def texts():
     worked = [log_of(line.split("|")[1].strip()) for name in WORKED for _, line in rows(name)
               if line.startswith(("check", "explain"))]
     beginnings = [seeds[0][:end] for end in range(len(seeds[0]))]
-    return seeds + worked + [changed(rng, seeds) for _ in range(CHANGED)] + beginnings
+    return seeds + worked + [changed_log(rng, seeds) for _ in range(CHANGED)] + beginnings

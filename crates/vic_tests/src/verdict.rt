@@ -30,7 +30,7 @@ fn is_judged(rt: &impl Abort, alloc: Global, names: &str, line: &str) -> Result<
 const VERDICTS: &str = "I1 S | complete 0
 I16 S RA RB S13 UA UB | complete 2
 I1 C MA RA QA I1 RB UA UB | complete 2
-I16 S C S14 N1 S10 RA RB1 S4 UA UB1 | complete 2
+I16 S C S14 I16M1 S10 RA RB1 S4 UA UB1 | complete 2
 M55 C QZ QY I1 S UZ UY | complete 2
 I1 S UB UA | absent E0040100000000A1
 I1 RA | unlisted E0040100000000A1
@@ -47,7 +47,7 @@ I1 S I1 RA I1 S UA | impossible at line 5
 QA QB I1 RB I1 RA | impossible at line 5
 M60 S14 C | impossible at line 17
 M55 C QZ I1 S I1 S | impossible at line 6
-I16 S C S14 N1 S10 RA S S4 UA | impossible at line 35";
+I16 S C S14 I16M1 S10 RA S S4 UA | impossible at line 35";
 
 #[test]
 fn verdicts_by_a_list(rt: HostRuntime) -> Result<(), Fail> {

@@ -70,17 +70,16 @@ def _read(names: Sequence[str], jobs: int) -> tuple[Files, set[str]]:
     """The texts of files, of logs their surveys; and which of the files are logs. The library's
     calls run side by side."""
     with ThreadPoolExecutor(jobs) as pool:
-        texts = list(pool.map(_text, names) if jobs > 1 else map(_text, names))
-    return ([(name, text) for name, (text, _) in zip(names, texts)],
-            {name for name, (_, is_log) in zip(names, texts) if is_log})
+        files = list(pool.map(_file, names) if jobs > 1 else map(_file, names))
+    return [file for file, _ in files], {name for (name, _), is_log in files if is_log}
 
 
-def _text(name: str) -> tuple[bytes, bool]:
-    """The text of a file, of a log its survey; and whether it is a log."""
+def _file(name: str) -> tuple[tuple[str, bytes], bool]:
+    """A file with its text, of a log its survey; and whether it is a log."""
     try:
         text = read(name)
         is_log = not text or text.startswith(LOG) and not text.startswith(SURVEYS)
-        return _written("survey", [(name, text)]).text if is_log else text, is_log
+        return (name, _written("survey", [(name, text)]).text if is_log else text), is_log
     except MemoryError:
         raise NoAnswer(f"out of memory: {shown(name)}") from None
 
@@ -158,11 +157,10 @@ def _notes(written: Written, answer: Object, is_shown: bool) -> Iterator[str]:
     if written.status == 0:
         yield SENTENCES["answers"]["holds"]
         yield from _sure(answer)
-    names = [log["name"] for log in answer["logs"]]
+    logs, items = answer["logs"], answer["items"]
     yield from summary([
-        *((item["place"] or "", item["state"]) for item in answer["items"]
-          if item["state"] not in DONE),
-        *((names[tag["certain_in"][0]], "unexpected") for tag in answer["unexpected"])])
+        *((item["place"] or "", item["state"]) for item in items if item["state"] not in DONE),
+        *((logs[tag["certain_in"][0]]["name"], "unexpected") for tag in answer["unexpected"])])
 
 
 def _sure(answer: Object) -> Iterator[str]:

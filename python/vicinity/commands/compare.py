@@ -51,7 +51,8 @@ def compare(arguments: Arguments) -> int:
                  "isn't an answer as `collection --json` writes it")
         return REFUSED
     old, new = (_answer(fields, _names(objects)) for fields in objects if fields)
-    statements, changes = list(_statements(old, new)), list(_changes(old, new))
+    statements = list(_statements(old, new))
+    changes = sorted(_changes(old, new), key=lambda it: (it.new.state, it.old.state, it.uid))
     status = int(bool(statements or changes))
     if arguments.form == "json":
         write([json.dumps({"schema": SCHEMA, "status": status, "said": [
@@ -121,16 +122,13 @@ def _statements(old: Answer, new: Answer) -> Iterator[tuple[str, str, str]]:
 
 
 def _changes(old: Answer, new: Answer) -> Iterator[Change]:
-    """Items in another state, or in logs of other names, by their new state and their UIDs."""
-    changes = []
+    """Items in another state, or in logs of other names."""
     for key in {**old.items, **new.items}:
         for was, now in zip_longest(old.items.get(key, ()), new.items.get(key, ()),
                                     fillvalue=Item()):
             has_moved = was.logs and now.logs and not {*was.logs} & {*now.logs}
             if was.state != now.state or has_moved:
-                changes.append(Change(key.split(" ")[0], was, now))
-    return iter(sorted(changes, key=lambda change: (
-        change.new.state, change.old.state, change.uid)))
+                yield Change(key.split(" ")[0], was, now)
 
 
 def _line(change: Change) -> str:

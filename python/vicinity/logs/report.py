@@ -69,8 +69,7 @@ def object_of_report(name: str, log: JudgedLog) -> Object:
 def notes(log: JudgedLog) -> Iterator[tuple[int, str]]:
     """What is worth a look in lines of a log, and isn't part of the answer: tags that were silenced
     and never heard, and rounds that were cut short; of many of a kind the first."""
-    rows, unheard = log.rows, dict[int, int]()
-    cut: list[tuple[int, str]] = []
+    rows, unheard, cut = log.rows, dict[int, int](), list[tuple[int, str]]()
     for row in map(rows.row, range(0 if log.refused_line else len(rows.lines))):
         if row.request is None:
             continue

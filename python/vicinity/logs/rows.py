@@ -15,15 +15,14 @@ from .._sentences import Advice, advice, foreign
 from ..frames import (Request, read_request, read_response, slot_mask, write_inventory, write_line,
                       write_stay_quiet)
 
-FIRST_REQUEST = re.compile(rb"^T ([0-9A-Fa-f]{2})", re.MULTILINE)
 #: The UID of a Stay Quiet.
 SILENCED = re.compile(rb"^T ..02(.{16})", re.MULTILINE)
 #: How many bits the masks have at least of which each UID may have been silenced.
 LEAST_SILENCED = UID_BITS - 6
 #: In so many rounds, the last ones, collisions are looked at.
 MOST_ROUNDS = 1000
-#: The bits of the link in the flags of a request, and the link if there is no request.
-LINK, ANY_LINK = 3, 2
+#: The link if there is no request.
+ANY_LINK = 2
 STAY_QUIET = b"02"
 #: How much of a refused line is kept, and how much of the first one is looked at.
 MOST_QUOTED, MOST_SEEN = 160, 4096
@@ -81,37 +80,25 @@ class Rows:
     A Stay Quiet in a named line is a row of its own."""
 
     def __init__(self, text: bytes, refused: int = 0, named: Container[int] = ()):
-        self.text = text
+        self.text, self._named = text, named
+        #: Whether its version has lines for field cycles.
+        self.has_cycles = not text.startswith(b"vicinity-log 1")
         #: Of each row, the number of its first line and where that is in the text.
         self.lines: array[int] = array("I")
         self._starts: array[int] = array("I")
         #: How many UIDs are listed; the numbers of the first and the last line of the list.
         self.listed, self.list_lines = 0, (0, 0)
-        #: The last line that isn't part of the list.
-        self.asked_until = 1
-        start = self._end = 0
-        #: The digits of the UIDs that were heard: in all, and in one row.
-        self._heard: set[bytes] = set()
-        heard: set[bytes] = set()
-        for number, line in enumerate(io.BytesIO(self.text), 1):
+        #: The last line that isn't part of the list, and where it ends in the text.
+        self.asked_until, self._end = 1, 0
+        #: The digits of the UIDs that were heard: in the rows before, and in the last one.
+        self._heard, self._heard_last = set[bytes](), set[bytes]()
+        start = 0
+        for number, line in enumerate(io.BytesIO(text), 1):
             if number == refused:
                 break
-            letter, digits = line[:1], line[6:22].upper()
-            if letter == b"U":
-                self.listed += 1
-                self.list_lines = self.list_lines[0] or number, number
-            elif number > 1 and letter not in b"#\r\n":
-                self.asked_until, self._end = number, start + len(line)
-                if letter in b"RH":
-                    heard.add(digits)
-                elif letter in b"TF" and not (line[4:6] == STAY_QUIET and digits in heard
-                                              and number not in named):
-                    self.lines.append(number)
-                    self._starts.append(start)
-                    self._heard |= heard
-                    heard = set()
+            self._add(number, line, start)
             start += len(line)
-        self._heard |= heard
+        self._last_rows = range(max(0, len(self.lines) - MOST_ROUNDS), len(self.lines))
         line, end, _ = self.text[start:start + MOST_QUOTED].partition(b"\n")
         first = text[:MOST_SEEN].partition(b"\n")[0].decode(errors="replace").rstrip("\r")
         #: What it is, and what to do, if nobody meant it as a log.
@@ -120,6 +107,23 @@ class Rows:
         self.refused, self.until_refused = line, self.text[:start] + line + end
         self.is_cut = 0 < start < len(self.text) and self.text.find(b"\n", start) < 0
 
+    def _add(self, number: int, line: bytes, start: int) -> None:
+        """Notes a line: what is listed, what was heard, and where a row begins."""
+        letter, digits = line[:1], line[6:22].upper()
+        if letter == b"U":
+            self.listed += 1
+            self.list_lines = self.list_lines[0] or number, number
+        elif number > 1 and letter not in b"#\r\n":
+            self.asked_until, self._end = number, start + len(line)
+            if letter in b"RH":
+                self._heard_last.add(digits)
+            elif letter in b"TF" and not (line[4:6] == STAY_QUIET and number not in self._named
+                                          and digits in self._heard_last):
+                self.lines.append(number)
+                self._starts.append(start)
+                self._heard |= self._heard_last
+                self._heard_last = set()
+
     def row(self, index: int) -> Row:
         """A row, of the text with its comments."""
         ends = self._starts[index + 1:index + 2] or [self._end]
@@ -127,7 +131,8 @@ class Rows:
 
     def is_heard(self, uid: int) -> bool:
         """Whether a reply has a UID."""
-        return uid.to_bytes(8, "little").hex().upper().encode() in self._heard
+        digits = uid.to_bytes(8, "little").hex().upper().encode()
+        return digits in self._heard or digits in self._heard_last
 
     def place(self, line: int) -> int:
         """The index of the row that a line belongs to."""
@@ -136,11 +141,6 @@ class Rows:
     def advice(self, fault: str) -> Advice:
         """What the fault of the refused line means."""
         return advice(fault, "replies" if self.refused[:2] in (b"R ", b"H ") else "faults")
-
-    @property
-    def has_cycles(self) -> bool:
-        """Whether its version has lines for field cycles."""
-        return not self.text.startswith(b"vicinity-log 1")
 
     def ask(self, mask: Mask, slots: int = 1) -> str:
         """The line that asks a mask."""
@@ -153,13 +153,12 @@ class Rows:
     @property
     def _link(self) -> int:
         """The link of the log's requests."""
-        first = FIRST_REQUEST.search(self.text)
-        return int(first[1], 16) & LINK if first else ANY_LINK
+        requests = (self.row(index).request for index in range(len(self.lines)))
+        return next((request.link for request in requests if request), ANY_LINK)
 
     def cut_short(self, masks: Sequence[Mask]) -> list[Mask]:
         """What the last rounds asked that lack slots, if it has all these masks; else nothing."""
-        last = range(max(0, len(self.lines) - MOST_ROUNDS), len(self.lines)) if masks else ()
-        rows = map(self.row, last)
+        rows = map(self.row, self._last_rows if masks else ())
         cut = dict.fromkeys(row.request.mask for row in rows
                             if row.request and len(row.slots) < row.request.slots - 1)
         wider = [{other for other in cut if other.length <= mask.length and other.has(mask.value)}
@@ -178,8 +177,7 @@ class Rows:
         """Whether in a slot of the last rounds, whose tags no later one asked, two or more tags
         answered of which at most one is certain."""
         asked = set[Mask]()
-        for index in range(len(self.lines) - 1, max(-1, len(self.lines) - 1 - MOST_ROUNDS), -1):
-            row = self.row(index)
+        for row in map(self.row, reversed(self._last_rows)):
             if any(slot.letter == "C" and slot.mask not in asked
                    and len([*islice(filter(slot.mask.has, certain), 2)]) < 2 for slot in row.slots):
                 return True

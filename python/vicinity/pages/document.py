@@ -1,6 +1,7 @@
 """A page: the one file that web/ makes, with what it draws in it,
 and plain text for whom no script draws it."""
 import json
+import re
 import runpy
 from hashlib import sha256
 from html import escape
@@ -18,17 +19,10 @@ HERE = Path(__file__).resolve().parent
 MADE, BUILD = HERE / "page.html", HERE / "../../../web/build"
 
 
-def template() -> str:
-    """The page without what it draws."""
-    return str(MADE.read_text("utf-8") if MADE.exists() else
-               runpy.run_path(str(BUILD))["record"]())
-
-
 def document(title: str, pieces: Iterable[str], plain: Iterable[str]) -> Iterator[str]:
     """The page of an object, which comes as pieces of JSON, and of lines of text."""
-    head, _, rest = template().partition("{{title}}")
-    before, _, rest = rest.partition("{{plain}}")
-    between, _, tail = rest.partition("{{object}}")
+    page = MADE.read_text("utf-8") if MADE.exists() else runpy.run_path(str(BUILD))["record"]()
+    head, before, between, tail = re.split("{{title}}|{{plain}}|{{object}}", page)
     yield head + escape(title) + before
     yield from (f"{escape(line)}\n" for line in plain)
     yield between

@@ -2,7 +2,7 @@ use Rattle.std.proofs.lemmas.Result.{IfOk-weaker}
 use Rattle.vic_operands.proofs.Alone.{usage_alone-to_reconcile}
 use Rattle.vic_operands.specs.Lists.{IsGatheredToReconcile}
 use Rattle.vic_commands.proofs.CollectedLaws.{collected-output}
-use Rattle.vic_commands.proofs.collected.ForLinesGather.finish.Goals as goal
+use Rattle.vic_commands.proofs.collected.TakenForLinesGather.finish.Goals as goal
 use Rattle.vic_commands.specs.declared.collected.Form.TheVariants.{Lines}
 
 pub returns : goal.returns

@@ -1,6 +1,6 @@
 use Rattle.std.proofs.Common.{◌++◌, ◌∷◌, []}
 use Rattle.vic_commands.proofs.CollectedLaws.{more_files}
-use Rattle.vic_commands.proofs.collected.ForLinesGather.add.Goals as goal
+use Rattle.vic_commands.proofs.collected.TakenForLinesGather.add.Goals as goal
 
 pub returns : goal.returns
 returns c names texts taken = (
