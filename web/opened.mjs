@@ -1,5 +1,5 @@
 /** What is opened: files as logs, each with its text, or together a collection, which has none of its own. */
-import { hasUids, isBroken, isPlaces, isSpreadsheet, isStrange, kindOf, logsNamed, nameIn, startOf, stemOf, surveyedIn, uncopied } from "./judge/files.mjs";
+import { hasUids, isBroken, isPlaces, isSpreadsheet, isStrange, kindOf, startOf, stemOf, surveyedIn, uncopied, unreadOf, utf8Of } from "./judge/files.mjs";
 import { grouped } from "./judge/groups.mjs";
 import { SENTENCES } from "./say/sentences.mjs";
 import { firstOf, MOST_LISTED } from "./say/shelves.mjs";
@@ -259,9 +259,8 @@ export function withFiles(object, { tables, logs, both, left, before }) {
     const file = files.get(log.name) ?? log;
     Object.assign(log, { was: file.was, ...ageOf(file, [log, file].flatMap(stemsOf)) });
   }
-  const named = tables.filter(isPlaces).flatMap(logsNamed), known = new Set(named.map(({ log }) => log));
-  const here = new Set(object.logs.map(({ name }) => nameIn(name, known))), places = new Set(object.logs.map(({ place }) => place));
-  object.unread = named.filter(({ place, log }) => places.has(place) && !here.has(log) && !out.has(stemOf(log)));
+  const named = tables.filter(isPlaces).flatMap(({ text }) => unreadOf(new TextDecoder().decode(utf8Of(text)), object.logs));
+  object.unread = named.filter(({ log }) => !out.has(stemOf(log)));
 }
 
 /**

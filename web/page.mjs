@@ -130,10 +130,8 @@ function take(taken, which = taken.length > 1 ? -1 : 0) {
 /** Keeps what is here, so that one can go back to it. */
 const keep = () => now.past.push({ entries: [...now.entries], current: now.current });
 
-back.addEventListener("click", () => {
-  const before = now.past.pop();
-  if (before) take(before.entries.map((entry) => entry.error === STOPPED ? { ...entry, error: undefined } : entry), before.current);
-});
+back.addEventListener("click", () => now.past.splice(-1).forEach(({ entries, current }) =>
+  take(entries.map((entry) => entry.error === STOPPED ? { ...entry, error: undefined } : entry), current)));
 close.addEventListener("click", () => { keep(); take([]); });
 
 /** @param {Entry} [entry] */

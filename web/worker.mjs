@@ -39,7 +39,7 @@ async function warm(sample) {
   for (let left = WARMING; library && left && !isAsked; left--) tell(await judge(library, long, ""), long);
 }
 
-onmessage = async ({ data: { id, ...data } }) => {
+onmessage = async ({ data: { id, text, name, isKept, changed, files, ...data } }) => {
   try {
     if (data.module) {
       module = data.module;
@@ -49,10 +49,9 @@ onmessage = async ({ data: { id, ...data } }) => {
     isAsked = true;
     const library = await loading;
     if (!library) return postMessage({ id, error: SENTENCES.failures.none });
-    const { text, name, isKept, changed, files } = data;
     if (text) postMessage({ id, told: tell({ ...await judge(library, text, name, isKept), changed }, text) });
     if (files) postMessage({ id, collection: await judgeAll(library, files) });
   } catch (error) {
-    postMessage({ id, ...why(error, data.files) });
+    postMessage({ id, ...why(error, files) });
   }
 };

@@ -129,7 +129,6 @@ class Asked(Command):
         self.assertEqual((told.pop("version"), told.pop("file")),
                          (vicinity.__version__.partition(".dev")[0], "catalogue.csv"))
         self.assertEqual([it["file"] for it in told.pop("files")], TABLES)
-        self.assertEqual(told.pop("unread"), [])
         objects = [log.pop("object") for log in told["logs"]]
         self.assertEqual([it.pop("sha256") for it in told["logs"]],
                          [sha256(Path(name).read_bytes()).hexdigest() for name in SHELVES])
@@ -160,14 +159,13 @@ class Asked(Command):
         self.assertEqual([it.get("denied") for it in told["logs"]],
                          [None, None, ["E0040100000000A1"], None])
 
-    def test_a_page_knows_which_logs_a_table_of_places_names_too(self):
-        """As far as their places have others: of the others the object says that they have none."""
+    def test_a_page_has_the_table_of_places(self):
+        """Without the mark of UTF-8, to say which logs it names that aren't here."""
         catalogue = self.catalogue("uid,place\nE0040100000000A1,A\n")
-        for table in ('place,log\nA,a\nA,"x, y"\nB,b\n',
-                      'n;Log;place\r\n;"a";A\r\n\r\n;x, y;"A"\r\n;b;B'):
-            places = self.write("places", table.encode())
-            said = within("collection", "--page", catalogue, places, self.write("a", log(ALL)))[0]
-            self.assertEqual(drawn_in(said.decode())[0]["unread"], [{"place": "A", "log": "x, y"}])
+        places = self.write("places", b"\xef\xbb\xbfplace,log\nA,a\nA,more\n")
+        said = within("collection", "--page", catalogue, places, self.write("a", log(ALL)))[0]
+        self.assertEqual([it.get("text") for it in drawn_in(said.decode())[0]["files"]],
+                         [None, "place,log\nA,a\nA,more\n"])
 
     def test_a_log_in_a_text_of_surveys_is_as_old_as_this(self):
         """Whatever file has the name of the log, even if it is the text of surveys itself."""

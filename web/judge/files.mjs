@@ -73,20 +73,25 @@ const cellsOf = (line, separator) => Array.from(line.matchAll(new RegExp(`("(?:[
 
 /**
  * Which logs a table of places names, that the library has accepted.
- * @param {Given} table
+ * @param {string} text
  */
-export const logsNamed = ({ text }) => [",", ";", "\t"].map((separator) => {
-  const [heads, ...rows] = new TextDecoder().decode(utf8Of(text)).split(/\r?\n/).map((line) => cellsOf(line, separator));
+const logsNamed = (text) => [",", ";", "\t"].map((separator) => {
+  const [heads, ...rows] = text.split(/\r?\n/).map((line) => cellsOf(line, separator));
   const [place, log] = ["place", "log"].map((name) => heads.findIndex((head) => head.toLowerCase() === name));
   return rows.flatMap((cells) => cells[place] && cells[log] ? { place: cells[place], log: cells[log] } : []);
 }).find((rows) => rows.length) ?? [];
 
 /**
- * By which of those names a log is found: its own, that without folders, or without ending too.
- * @param {string} name
- * @param {Set<string>} known
+ * Which logs a table of places names that aren't here, of places of which others are. A log is found by its name, by that without folders, or
+ * without ending too.
+ * @param {string} text
+ * @param {{name: string, place: string | null}[]} logs
  */
-export const nameIn = (name, known) => [name, name.split(/[/\\]/).pop() ?? "", stemOf(name)].find((it) => known.has(it));
+export function unreadOf(text, logs) {
+  const named = logsNamed(text), known = new Set(named.map(({ log }) => log)), places = new Set(logs.map(({ place }) => place));
+  const here = new Set(logs.map(({ name }) => [name, name.split(/[/\\]/).pop() ?? "", stemOf(name)].find((it) => known.has(it))));
+  return named.filter(({ place, log }) => places.has(place) && !here.has(log));
+}
 
 /**
  * Of what isn't a log or surveys, a table has a name or a column that says so.

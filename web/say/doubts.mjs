@@ -1,5 +1,5 @@
 /** What is to be known of the logs of a collection before its items are: what wasn't counted, and what isn't sure. */
-import { stemOf } from "../judge/files.mjs";
+import { stemOf, unreadOf } from "../judge/files.mjs";
 import { KIND } from "../judge/objects.mjs";
 import { askedOf, copies, interchanged, leaving, ofAPlace, ofOtherDays, older, same, shared } from "./copies.mjs";
 import { SENTENCES } from "./sentences.mjs";
@@ -40,8 +40,9 @@ export function doubtsOf(object, shelves) {
  * @param {CollectionObject} object
  * @returns {Doubt[]}
  */
-function notHere({ unread = [], files, file }) {
-  const table = files.find((it) => it.file !== file), name = printable(table?.file ?? ""), isOne = unread.length === 1;
+function notHere({ logs, files, file, ...object }) {
+  const table = files.find((it) => it.file !== file), unread = object.unread ?? unreadOf(table?.text ?? "", logs);
+  const name = printable(table?.file ?? ""), isOne = unread.length === 1;
   const those = (/** @type {string} */ of) => unread.map(({ place, log }) => printable(`${log} ${of} ${place}`)), key = [table?.sha256, those("of")].join();
   const [they, them, is] = isOne ? ["It isn't", "its row", "isn't"] : ["They aren't", "their rows", "aren't"];
   return !unread.length ? [] : [{ isFirst: true, mayNotCount: true, short: `no log ${firstOf(those("of"))}, as ${name} names`,

@@ -81,8 +81,7 @@ export function headlineOf(object) {
  */
 function lacking(object) {
   const { here, shelves, doubts, of, elsewhere, others, strays: stray, open, isAsked, isUnsettled } = summaryOf(object), strays = stray.length;
-  const { counts, logs } = object, again = shelves.sorted(open);
-  const unsure = new Set(doubts.flatMap(({ numbers = [] }) => numbers));
+  const { counts, logs } = object, again = shelves.sorted(open), unsure = new Set(doubts.flatMap(({ numbers = [] }) => numbers));
   const maybe = of("misplaced").filter((item) => !shelves.isStray(item) && item.certain_in.every((at) => unsure.has(at) || logs[at].left_over));
   const { length: lost } = of("missing").filter(({ place }) => place !== null && shelves.counted.get(place)?.every((at) => unsure.has(at)));
   const strayed = `heard in ${new Set(stray.flatMap((item) => item.certain_in)).size > 1 ? "logs" : "a log"} of no place`;

@@ -7,14 +7,12 @@ import unicodedata
 from contextlib import suppress
 from typing import Iterable, Iterator, Sequence
 
-from .._objects import Object
 from .._process import shown
 from .._sentences import SENTENCES
 from ..logs.words import count
 
-#: The columns of a catalogue that has places, that of logs in a table of places, and names that
-#: look like that of the second.
-UID, PLACE, LOG, NEARLY = "uid", "place", "log", ("place", "places")
+#: The columns of a catalogue that has places, and names that look like that of the second.
+UID, PLACE, NEARLY = "uid", "place", ("place", "places")
 #: What separates cells, in the order in which it is tried.
 SEPARATORS = ",;\t"
 DOUBTS = SENTENCES["catalogues"]
@@ -43,33 +41,6 @@ def doubts(tables: Iterable[tuple[str, bytes]]) -> Iterator[str]:
             if re.sub(r"[\W_]+", "", unicodedata.normalize("NFKC", column)).lower() in NEARLY:
                 yield f"{shown(name)}: {DOUBTS['noPlaces']} " + DOUBTS["meant"].format(
                     f"{number}, {json.dumps(column)},")
-
-
-def unread(tables: Iterable[tuple[str, bytes]], logs: Sequence[Object]) -> Sequence[Object]:
-    """The logs that a table of places names, and that weren't given, though others of their places
-    were: the library takes these places as counted."""
-    named = [row for _, table in tables for row in _places(table)]
-    known, places = {row[LOG] for row in named}, {log["place"] for log in logs}
-    here = {next((it for it in found_by(log["name"]) if it in known), "") for log in logs}
-    return [row for row in named if row[PLACE] in places and row[LOG] not in here]
-
-
-def found_by(log: str) -> Sequence[str]:
-    """The names by which a log is found: its own, that without folders, and without ending too."""
-    base = re.split(r"[/\\]", log)[-1]
-    return log, base, base[:1] + base[1:].rpartition(".")[0] if "." in base[1:] else base
-
-
-def _places(table: bytes) -> Iterator[Object]:
-    """The rows of a table of places, which the library has accepted; none of another one."""
-    lines = table.removeprefix(codecs.BOM_UTF8).decode(errors="replace").split("\n")
-    for separator in SEPARATORS:
-        heads, *rows = csv.reader((line.rstrip("\r") for line in lines), delimiter=separator)
-        names = [_name(head) for head in heads]
-        if {PLACE, LOG} <= {*names} and UID not in names:
-            yield from ({name: row[names.index(name)].strip(" \t") for name in (PLACE, LOG)}
-                        for row in rows if any(cell.strip(" \t") for cell in row))
-            return
 
 
 def _name(cell: str) -> str:

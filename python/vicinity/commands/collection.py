@@ -17,7 +17,7 @@ from ..pages.document import document, page_object
 from ..logs.findings import JudgedLog
 from ..logs.headline import MAY_BE_HERE, READ_AGAIN, STILL_COMPLETE
 from ..logs.words import count, listing
-from .catalogue import columns_of, doubts, unread
+from .catalogue import columns_of, doubts
 from .summary import summary
 
 #: How a log begins, unless it is a text of surveys, which begins so; an empty file is a log.
@@ -131,8 +131,11 @@ def _page(files: Files, logs: set[str], found: Object) -> Iterator[str]:
                              if tag["kind"] == "absent"]
     tables = _tables(files)
     name = shown(os.path.basename(next(name for name, text in tables if columns_of(text))))
-    found.update(version=VERSION, file=name, unread=unread(tables, found["logs"]), files=[
-        {"file": name, "sha256": sha256(text).hexdigest()} for name, text in tables])
+    # of a table of places the page says which logs it names
+    found.update(version=VERSION, file=name, files=[
+        {"file": name, "sha256": sha256(text).hexdigest(), **(
+            {} if columns_of(text) else {"text": text.decode("utf-8-sig")})}
+        for name, text in tables])
     lines = _written("reconcile", files).text.decode()
     answer = _less(found, found["wanted"]) if "wanted" in found else found["answer"]
     return document(f"{name}: {answer}", [json.dumps(found)], lines.splitlines())
