@@ -1218,6 +1218,17 @@ def test_a_later_count_by_the_name_of_a_copy_is_not_forgotten(page):
     assert "is older than A (1).log of 18 Nov 2026, " in page.texts(".doubts b")[0]
 
 
+def test_a_number_behind_a_dot_is_no_ending(page):
+    """Two such logs are of two places, or one of them is the older one, which is asked."""
+    logs = {"R.1": field(UID_A), "R.2": field(UID_B)}
+    drop(page, {"books.csv": books((UID_A, ",R.1"), (UID_B, ",R.2")), "R.1": logs["R.1"]})
+    drop(page, {"R.2": logs["R.2"]})
+    until_green(page)
+    drop(page, {"books.csv": books((UID_A, ",R"), (UID_B, ",R")), **logs})
+    page.until(".error", "another log has that name, or is of a place by the same name")
+    assert len(page.texts("#told button")) == 2
+
+
 @pytest.mark.parametrize("name", ["the example", "pasted text"])
 def test_a_file_may_be_called_like_what_has_no_name(page, name):
     drop(page, {name: field(UID_A)})

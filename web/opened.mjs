@@ -62,8 +62,6 @@ export async function read(file, signal, made) {
 const isATable = (entry) => kindOf(entry) === "table";
 /** @param {Entry} entry */
 const isCatalogue = (entry) => isATable(entry) && !isPlaces(entry);
-/** @param {Entry} entry */
-const isPasted = ({ made }) => made !== undefined;
 /** @param {{name: string}[]} list */
 const namesOf = (list) => listing(list.map(({ name }) => printable(name)));
 
@@ -78,14 +76,19 @@ function sameAs(list, others) {
   return list.filter((log) => stemsOf(log).some((stem) => stems.has(stem)));
 }
 
+/**
+ * A name as other counts of the same have it: without folders, and without an ending that is no number.
+ * @param {string} name
+ */
+const bareOf = (name) => stemOf(name.replace(/\.\d+$/, "$&."));
 /** @param {{name: string, was?: string}} log */
-const stemsOf = ({ name, was = name }) => [stemOf(name), stemOf(was)];
+const stemsOf = ({ name, was = name }) => [bareOf(name), bareOf(was)];
 
 /**
  * What else has one of these may be another count of the same, or another version: a log has its names, and those of what was surveyed.
  * @param {Entry} entry
  */
-const keysOf = (entry) => isATable(entry) ? [`${stemOf(entry.name)}/`] : [...stemsOf(entry), ...surveyedIn(entry).map(stemOf)];
+const keysOf = (entry) => isATable(entry) ? [`${stemOf(entry.name)}/`] : [...stemsOf(entry), ...surveyedIn(entry).map(bareOf)];
 /**
  * The one that each table of its kind has.
  * @param {Entry} table
@@ -117,7 +120,7 @@ export function gathered(taken, entries) {
   const left = leftAs(out, (it) => `left out: ${strangeness(it)}`), said = wasEach(left).join(" ");
   if (earlier && !rest.length) return [collected({ ...earlier, left: [...past, ...left] }, `${said} The collection is still here.`)];
   const tables = rest.filter(isATable), logs = rest.filter((it) => !isATable(it));
-  const isJoining = !isWhole && (earlier || !logs.length) && logs.every((it) => !isPasted(it)), isLoose = !tables.length && !(isJoining && earlier);
+  const isJoining = !isWhole && (earlier || !logs.length) && logs.every(({ made }) => !made), isLoose = !tables.length && !(isJoining && earlier);
   const what = earlier ? `${first.name}, ${count(before.length, "log")}` : firstOf(before.map(({ name }) => name), "and", MOST_LISTED);
   const isClosed = first && !isJoining && (earlier || !isLoose), closed = { name: `What was here (${what})`, how: "closed", keys: [] };
   const over = isClosed ? [...past.filter(({ how }) => !how), ...leftAs([...before, ...earlier?.tables ?? []]), ...earlier ? [] : [closed]] : past;
@@ -127,7 +130,7 @@ export function gathered(taken, entries) {
     return [...isClosed ? [] : entries.filter((it) => !gone.includes(it)), ...logs.map((log) => ({ ...log, note: words.trimEnd() }))]
       .map((it) => ({ ...it, left: all }));
   }
-  const others = isJoining && !earlier ? entries : [], [unnamed, strange] = [others.filter(isPasted), others.filter(isStrange)];
+  const others = isJoining && !earlier ? entries : [], [unnamed, strange] = [others.filter(({ made }) => made), others.filter(isStrange)];
   const more = [...left, ...leftAs(unnamed, () => "left out: what is pasted has no name"), ...leftAs(strange, () => `left out: ${NO_LOG}`)];
   const kept = others.filter((it) => !unnamed.includes(it) && !strange.includes(it)), both = others.flatMap((it) => it.both ?? []);
   const here = isJoining && earlier || { tables: [], before: [], both, logs: kept };
@@ -178,7 +181,7 @@ function joined(here, tables, logs, note, first) {
   const replaced = sameAs(here.logs, logs), stay = here.logs.filter((log) => !replaced.includes(log));
   const kept = stay.map((log) => log.was && tables.some(isPlaces) ? { ...log, name: log.was } : log);
   const gone = here.tables.filter((table) => tables.some((other) => isPlaces(other) === isPlaces(table))), [old] = gone.filter(isCatalogue);
-  const more = kept.length ? [...logs, ...gone.length ? [] : tables.filter(isPasted)] : [];
+  const more = kept.length ? [...logs, ...gone.length ? [] : tables.filter(({ made }) => made)] : [];
   const had = first?.collection ? ` (${count(first.collection.items.length, "item")})` : "";
   const said = (old ? `${namesOf([old])}${had} was replaced by ${namesOf(tables.filter(isCatalogue))}. ` : "") +
     was(gone.filter(isPlaces), `replaced by ${namesOf(tables.filter(isPlaces))}`) + (note.trim() && `${note.trim()} `) +
@@ -260,7 +263,7 @@ export function withFiles(object, { tables, logs, both, left, before }) {
     Object.assign(log, { was: file.was, ...ageOf(file, [log, file].flatMap(stemsOf)) });
   }
   const named = tables.filter(isPlaces).flatMap(({ text }) => unreadOf(new TextDecoder().decode(utf8Of(text)), object.logs));
-  object.unread = named.filter(({ log }) => !out.has(stemOf(log)));
+  object.unread = named.filter(({ log }) => !out.has(bareOf(log)));
 }
 
 /**
