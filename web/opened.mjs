@@ -1,6 +1,7 @@
 /** What is opened: files as logs, each with its text, or together a collection, which has none of its own. */
-import { hasUids, isBroken, isPlaces, isSpreadsheet, isStrange, kindOf, startOf, stemOf, surveyedIn, uncopied, unreadOf, utf8Of } from "./judge/files.mjs";
+import { hasUids, isBroken, isPlaces, isSpreadsheet, isStrange, kindOf, startOf, stemOf, surveyedIn, uncopied } from "./judge/files.mjs";
 import { grouped } from "./judge/groups.mjs";
+import { insteadOf } from "./say/copies.mjs";
 import { SENTENCES } from "./say/sentences.mjs";
 import { firstOf, MOST_LISTED } from "./say/shelves.mjs";
 import { count, listing, printable } from "./say/words.mjs";
@@ -10,8 +11,7 @@ import { STOPPED } from "./work.mjs";
 /** @typedef {import("./judge/objects.mjs").CollectionObject} CollectionObject */
 /** @typedef {{name: string, how: string, keys: string[], changed?: number}} Left what isn't here any more: how it left, if that is said as
  *   long as it isn't back; and when it was changed: what has one of its keys may be an older file */
-/** @typedef {{tables: Entry[], logs: Entry[], both: string[], left: Left[], before: Left[]}} Collection with what was answered of its files;
- *   `before` are the tables that others have replaced */
+/** @typedef {{tables: Entry[], logs: Entry[], both: string[], left: Left[]}} Collection with what was answered of its files */
 /**
  * A log, or a collection, with what was done to it last; or one that waits for its catalogue. Of a file it has when that was changed,
  * and its own name, if it took another; of one by itself, what isn't here any more, and what was answered.
@@ -30,7 +30,7 @@ const CONTROL = /[\0-\x1F\x7F]/g, NO_TEXTS = "Leave out what doesn't belong here
 /** Of how many logs it is said each that they count by other names. */
 const MOST_SAID_EACH = 4, NO_CATALOGUE = "Now open the catalogue: a table (CSV) with a column uid.";
 /** What is pasted has no name by which it could be of a place. The example leaves with the first file that is opened, and joins none. */
-export const PASTED = "pasted text", EXAMPLE = "the example", BY_BUTTON = "left out";
+export const PASTED = "pasted text", EXAMPLE = "the example";
 
 /** @param {Entry} entry */
 export const isUnanswered = ({ told, collection, error, waits }) => !told && !collection && !error && !waits;
@@ -49,13 +49,13 @@ export const isLacking = ({ error, text }) => error && (error !== STOPPED || !te
  * @returns {Promise<Entry>}
  */
 export async function read(file, signal, made) {
-  const name = file.name.replace(CONTROL, "?"), text = new Uint8Array();
-  if (UNFINISHED.test(name)) return { name, text, error: NOT_WHOLE };
-  if (file.size > MOST_BYTES) return { name, text, error: TOO_LARGE };
+  const entry = { name: file.name.replace(CONTROL, "?"), text: new Uint8Array(), changed: file.lastModified, made };
+  if (UNFINISHED.test(entry.name)) return { ...entry, error: NOT_WHOLE };
+  if (file.size > MOST_BYTES) return { ...entry, error: TOO_LARGE };
   try {
     const stopped = new Promise((_, no) => signal.addEventListener("abort", no)), bytes = await Promise.race([file.arrayBuffer(), stopped]);
-    return { name, text: new Uint8Array(bytes), changed: file.lastModified, made };
-  } catch { return { name, text, error: signal.aborted ? STOPPED : NO_FILE }; }
+    return { ...entry, text: new Uint8Array(bytes) };
+  } catch { return { ...entry, error: signal.aborted ? STOPPED : NO_FILE }; }
 }
 
 /** @param {Entry} entry */
@@ -77,63 +77,68 @@ function sameAs(list, others) {
 }
 
 /**
- * A name as other counts of the same have it: without folders, and without an ending that is no number.
+ * A name as other counts of the same have it: without folders, and without an ending that is no number; and as it will be when it is whole.
  * @param {string} name
  */
-const bareOf = (name) => stemOf(name.replace(/\.\d+$/, "$&."));
+const bareOf = (name) => stemOf(name.replace(UNFINISHED, "").replace(/\.\d+$/, "$&."));
 /** @param {{name: string, was?: string}} log */
 const stemsOf = ({ name, was = name }) => [bareOf(name), bareOf(was)];
 
 /**
- * What else has one of these may be another count of the same, or another version: a log has its names, and those of what was surveyed.
+ * What else has one of these may be another count of the same, or another version: a log has its names, and those of what was surveyed, each
+ * also without a number that may be an ending; a table has its name, and that of its kind.
  * @param {Entry} entry
  */
-const keysOf = (entry) => isATable(entry) ? [`${stemOf(entry.name)}/`] : [...stemsOf(entry), ...surveyedIn(entry).map(bareOf)];
-/**
- * The one that each table of its kind has.
- * @param {Entry} table
- */
-const kindKey = (table) => `/${isPlaces(table)}`;
+const keysOf = (entry) => isATable(entry) ? [`${uncopied(stemOf(entry.name))}/`, ...strangeness(entry) ? [] : [`/${isPlaces(entry)}`]]
+  : [entry.name, entry.was ?? [], surveyedIn(entry)].flat().flatMap((name) => [bareOf(name), stemOf(name)]);
 
 /**
- * Files that leave. One that was called like a copy of another, and of which nothing is said, may have been a later count of that.
+ * Files that leave.
  * @param {Entry[]} list
- * @param {(file: Entry) => string} [how] nothing if it isn't said of each
+ * @param {string | ((file: Entry) => string)} [how] nothing if it isn't said of each
  */
-const leftAs = (list, how = () => "") => list.map((it) => /** @type {Left} */ (
-  { name: it.was ?? it.name, how: how(it), keys: how(it) ? keysOf(it) : keysOf(it).flatMap((key) => [key, uncopied(key)]), changed: it.changed }));
+const leftAs = (list, how = "") => list.map((it) => /** @type {Left} */ (
+  { name: it.was ?? it.name, how: typeof how === "string" ? how : how(it), keys: keysOf(it), changed: it.changed }));
+
+/**
+ * What left with a collection that is closed, or before: how isn't said of the next one, of which a table by another name is none. What was
+ * called like a copy may have been a later count.
+ * @param {Left[]} left
+ */
+const closedWith = (left) => left.map((it) => ({ ...it, how: "", keys: it.keys.flatMap((key) => key[0] === "/" ? [] : [key, uncopied(key)]) }));
 
 /**
  * What was opened, as it is judged. Logs join others. Tables, or logs beside a collection that is here, belong to what is here, and what
  * is neither is left out; a catalogue with its logs is a collection of its own. A log that was pasted belongs to none.
  * @param {Entry[]} taken
- * @param {Entry[]} entries those that are here
+ * @param {Entry[]} all those that are here, of which the example leaves
  * @returns {Entry[]}
  */
-export function gathered(taken, entries) {
+export function gathered(taken, all) {
+  const entries = all.filter(({ made }) => made !== EXAMPLE), past = (all[0]?.given ?? all[0])?.left ?? [];
   const [first] = entries, earlier = first?.given, before = entries.flatMap((it) => it.given?.logs ?? it);
   const known = taken.filter((it) => !earlier || !strangeness(it)), isWhole = known.some(isCatalogue) && !known.every(isATable);
   // one of a log's name is a new count of it, which wasn't read: the old one doesn't count beside it
-  const names = before.flatMap((it) => [it, ...surveyedIn(it).map((name) => ({ name }))]), past = earlier?.left ?? first?.left ?? [];
-  const isNew = (/** @type {Entry} */ it) => !isATable(it) && sameAs([it], names).length > 0;
-  const out = taken.filter((it) => !isWhole && !known.includes(it) && !isNew(it)), rest = taken.filter((it) => !out.includes(it));
+  const names = before.flatMap((it) => [it, ...surveyedIn(it).map((name) => ({ name }))]);
+  const isKnown = (/** @type {Entry} */ it) => isWhole || known.includes(it), out = taken.filter((it) => !isKnown(it) && !sameAs([it], names).length);
+  const rest = taken.filter((it) => !out.includes(it)).map((it) => isKnown(it) || !isATable(it) ? it : { ...it, text: new Uint8Array(), error: NO_LOG });
   const left = leftAs(out, (it) => `left out: ${strangeness(it)}`), said = wasEach(left).join(" ");
   if (earlier && !rest.length) return [collected({ ...earlier, left: [...past, ...left] }, `${said} The collection is still here.`)];
   const tables = rest.filter(isATable), logs = rest.filter((it) => !isATable(it));
   const isJoining = !isWhole && (earlier || !logs.length) && logs.every(({ made }) => !made), isLoose = !tables.length && !(isJoining && earlier);
   const what = earlier ? `${first.name}, ${count(before.length, "log")}` : firstOf(before.map(({ name }) => name), "and", MOST_LISTED);
   const isClosed = first && !isJoining && (earlier || !isLoose), closed = { name: `What was here (${what})`, how: "closed", keys: [] };
-  const over = isClosed ? [...past.filter(({ how }) => !how), ...leftAs([...before, ...earlier?.tables ?? []]), ...earlier ? [] : [closed]] : past;
+  const over = isClosed ? [...closedWith([...past, ...leftAs([...before, ...earlier?.tables ?? []])]), ...earlier ? [] : [closed]] : past;
   const note = isClosed ? `${wasEach([closed])[0]} ` : "";
   if (isLoose) {
-    const gone = isClosed ? [] : sameAs(entries, logs), words = note || replacing(gone, logs), all = [...over, ...leftAs(gone)];
+    const gone = isClosed ? [] : sameAs(entries, logs), words = note || replacing(gone, logs), away = [...over, ...leftAs(gone)];
     return [...isClosed ? [] : entries.filter((it) => !gone.includes(it)), ...logs.map((log) => ({ ...log, note: words.trimEnd() }))]
-      .map((it) => ({ ...it, left: all }));
+      .map((it) => ({ ...it, left: away }));
   }
   const others = isJoining && !earlier ? entries : [], [unnamed, strange] = [others.filter(({ made }) => made), others.filter(isStrange)];
-  const more = [...left, ...leftAs(unnamed, () => "left out: what is pasted has no name"), ...leftAs(strange, () => `left out: ${NO_LOG}`)];
+  const more = [...left, ...leftAs(unnamed, "left out: what is pasted has no name"), ...leftAs(strange, `left out: ${NO_LOG}`)];
   const kept = others.filter((it) => !unnamed.includes(it) && !strange.includes(it)), both = others.flatMap((it) => it.both ?? []);
-  const here = isJoining && earlier || { tables: [], before: [], both, logs: kept };
+  const here = isJoining && earlier || { tables: [], both, logs: kept };
   return [joined({ ...here, left: [...over, ...more] }, tables, logs, [note, ...wasEach(more)].join(" "), first)];
 }
 
@@ -170,7 +175,7 @@ function replacing(gone, logs) {
 
 /**
  * A collection with more files, of which each takes the place of one of its kind, or of its name; and what became of these. Where each
- * log belongs a new table of places says by their own names.
+ * log belongs a new table of places says by their own names. That older files count instead of some is taken back as these are opened.
  * @param {Collection} here
  * @param {Entry[]} tables
  * @param {Entry[]} logs
@@ -186,10 +191,10 @@ function joined(here, tables, logs, note, first) {
   const said = (old ? `${namesOf([old])}${had} was replaced by ${namesOf(tables.filter(isCatalogue))}. ` : "") +
     was(gone.filter(isPlaces), `replaced by ${namesOf(tables.filter(isPlaces))}`) + (note.trim() && `${note.trim()} `) +
     (replacing(replaced, logs) || (more.length ? `${namesOf(more)} joined the logs that were here.` : ""));
-  const isBack = (/** @type {Left} */ one) => [...logs, ...tables].some((it) => it.name === one.name && (it.changed ?? 0) >= (one.changed ?? 0));
-  return collected({ tables: [...here.tables.filter((table) => !gone.includes(table)), ...tables], logs: [...kept, ...logs], both: here.both,
-    before: [...here.before, ...leftAs(gone).map((it, at) => ({ ...it, keys: [kindKey(gone[at])] }))],
-    left: [...here.left.filter((it) => !it.how || !isBack(it)), ...leftAs(replaced)] }, said.trimEnd());
+  const opened = [...logs, ...tables], isBack = (/** @type {Left} */ one) => opened.some((it) => it.name === one.name && (it.changed ?? 0) >= (one.changed ?? 0));
+  return collected({ tables: [...here.tables.filter((table) => !gone.includes(table)), ...tables], logs: [...kept, ...logs],
+    both: here.both.filter((key) => !opened.some((it) => key.includes(insteadOf(it.name, it.changed)))),
+    left: [...here.left.filter((it) => !it.how || !isBack(it)), ...leftAs([...replaced, ...gone])] }, said.trimEnd());
 }
 
 /**
@@ -201,11 +206,10 @@ function joined(here, tables, logs, note, first) {
  * @param {CollectionObject} [object]
  * @returns {Entry[]}
  */
-export function without({ tables, logs, both, left, before }, gone, kept, object) {
-  const of = (/** @type {string | undefined} */ name) => object?.logs.find((log) => log.name === name), [{ name }] = gone;
+export function without({ tables, logs, both, left }, gone, kept, object) {
+  const of = (/** @type {string | undefined} */ name) => object?.logs.find((log) => log.name === name), [{ name }] = gone, out = leftAs(gone, "left out");
   const others = (/** @type {Entry[]} */ list) => list.filter((it) => !gone.includes(it)), takes = of(kept)?.left_over && of(name)?.place;
-  const out = leftAs(gone, () => BY_BUTTON);
-  const rest = { tables: others(tables), both, before, left: [...left, ...out], logs: calledAs(others(logs), takes && kept ? [[kept, name]] : []) };
+  const rest = { tables: others(tables), both, left: [...left, ...out], logs: calledAs(others(logs), takes && kept ? [[kept, name]] : []) };
   return rest.tables.length ? [collected(rest, [...wasEach(out), ...asOthers(rest.logs, takes ? [name] : [])].join(" "))]
     : rest.logs.map((log) => ({ ...log, left: rest.left, both }));
 }
@@ -253,17 +257,14 @@ function asOthers(logs, names) {
  * @param {CollectionObject} object
  * @param {Collection} given
  */
-export function withFiles(object, { tables, logs, both, left, before }) {
+export function withFiles(object, { tables, logs, both, left }) {
   Object.assign(object, { both, left: [...wasEach(left), ...asOthers(logs, logs.map(({ name }) => name))] });
-  const files = new Map(logs.flatMap((it) => (kindOf(it) === "surveys" ? surveyedIn(it) : [it.name]).map((name) => [name, it])));
-  const ageOf = agesBeside([...left, ...before]), out = new Set(left.flatMap(({ how, keys }) => how === BY_BUTTON ? keys : []));
-  for (const [at, table] of tables.entries()) Object.assign(object.files[at], ageOf(table, [...keysOf(table), kindKey(table)]));
+  const ageOf = agesBeside(left), files = new Map(logs.flatMap((it) => (kindOf(it) === "surveys" ? surveyedIn(it) : [it.name]).map((name) => [name, it])));
+  for (const [at, table] of tables.entries()) Object.assign(object.files[at], ageOf(table, keysOf(table)));
   for (const log of object.logs) {
     const file = files.get(log.name) ?? log;
-    Object.assign(log, { was: file.was, ...ageOf(file, [log, file].flatMap(stemsOf)) });
+    Object.assign(log, { was: file.was, ...ageOf(file, [tables[1] ? [] : log.place ?? [], [log, file].map(stemsOf)].flat(2)) });
   }
-  const named = tables.filter(isPlaces).flatMap(({ text }) => unreadOf(new TextDecoder().decode(utf8Of(text)), object.logs));
-  object.unread = named.filter(({ log }) => !out.has(bareOf(log)));
 }
 
 /**

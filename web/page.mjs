@@ -182,7 +182,7 @@ function open(chosen, made) {
     const taken = await reading;
     if (now.pending === mine) now.pending = undefined;
     if (!now.pending) quiet();
-    const made = gathered(taken, now.entries.filter((it) => it.made !== EXAMPLE));
+    const made = gathered(taken, now.entries);
     if (now.entries.length) keep();
     take(made, made.length < 2 ? 0 : taken.length > 1 ? -1 : made.length - 1);
   }).catch(({ message }) => take([{ ...mine, error: message }]));

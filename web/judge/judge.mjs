@@ -46,7 +46,7 @@ export async function judgeAll(library, files) {
   shareLists([...object.items, ...object.unexpected]);
   const denied = deniedIn(object, texts), surveys = new Map(files.flatMap((it) => surveyedIn(it).map((name) => [name, sums.get(it.name)])));
   return { ...object, version: versionOf(library.version), file: tables.find((file) => !isPlaces(file))?.name ?? "",
-    files: tables.map(({ name }) => ({ file: name, sha256: sums.get(name) ?? "" })),
+    files: tables.map((it) => ({ file: it.name, sha256: sums.get(it.name) ?? "", text: isPlaces(it) ? new TextDecoder().decode(utf8Of(it.text)) : undefined })),
     logs: object.logs.map((/** @type {{name: string}} */ log, /** @type {number} */ at) =>
       ({ ...log, sha256: sums.get(log.name) ?? "", denied: denied[at], surveys: surveys.get(log.name) })) };
 }

@@ -80,8 +80,8 @@ export const KIND = Object.freeze({ COMPLETE: "complete", ABSENT: "absent", UNLI
  * @property {Unexpected[]} unexpected
  * @property {string[]} without_log
  * @property {OneLog[]} logs
- * @property {{file: string, sha256: string, changed?: number, newer?: number, than?: string, text?: string}[]} files what was given beside the logs
- * @property {{place: string, log: string}[]} [unread] what a table of places names and isn't here, of places of which other logs are
+ * @property {{file: string, sha256: string, changed?: number, newer?: number, than?: string, text?: string}[]} files what was given beside the
+ *   logs, of which only a table of places has its text
  * @property {string[]} [both] what was answered of its files, by the keys of the questions
  * @property {string[]} [left] what is said of files that were left out, or count as others, on which the answer rests
  */

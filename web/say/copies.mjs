@@ -133,7 +133,12 @@ export function interchanged({ logs, items }) {
  * By what a file is known of which something is said: one with other bytes, or beside a newer one, is asked about anew.
  * @param {Aged} file
  */
-const olderOne = ({ name, changed, newer = 0, sha256, surveys }) => `${name} of ${changed}, not of ${newer}: ${sha256 || surveys}`;
+const olderOne = ({ name, changed, newer, than, sha256, surveys }) => `${name} of ${changed}${insteadOf(than, newer)}${sha256 || surveys}`;
+/**
+ * @param {string} [name] of the newer one
+ * @param {number} [changed] when that was
+ */
+export const insteadOf = (name, changed) => `, not ${name} of ${changed}: `;
 
 /**
  * Files of whose names newer ones were here, each by the shelf of its log: those of which it was said that they count, and the others.

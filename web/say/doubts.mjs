@@ -35,14 +35,16 @@ export function doubtsOf(object, shelves) {
     ...shared(object, shelves, [...those, ...namesIn(alike)]), ...notAsked(object, shelves)], both);
 }
 
+/** @param {CollectionObject["files"]} files */
+const placesIn = (files) => files.find(({ text }) => text !== undefined);
+
 /**
  * Logs that a table of places names, and that aren't here: their places have others.
  * @param {CollectionObject} object
  * @returns {Doubt[]}
  */
-function notHere({ logs, files, file, ...object }) {
-  const table = files.find((it) => it.file !== file), unread = object.unread ?? unreadOf(table?.text ?? "", logs);
-  const name = printable(table?.file ?? ""), isOne = unread.length === 1;
+function notHere({ logs, files }) {
+  const table = placesIn(files), unread = unreadOf(table?.text ?? "", logs), name = printable(table?.file ?? ""), isOne = unread.length === 1;
   const those = (/** @type {string} */ of) => unread.map(({ place, log }) => printable(`${log} ${of} ${place}`)), key = [table?.sha256, those("of")].join();
   const [they, them, is] = isOne ? ["It isn't", "its row", "isn't"] : ["They aren't", "their rows", "aren't"];
   return !unread.length ? [] : [{ isFirst: true, mayNotCount: true, short: `no log ${firstOf(those("of"))}, as ${name} names`,
@@ -57,10 +59,10 @@ function notHere({ logs, files, file, ...object }) {
  * @param {string[]} known the places of which it is asked whether a log is theirs
  * @returns {Doubt[]}
  */
-function ofPlaces({ without_log, items, logs, files, file }, asked, known) {
+function ofPlaces({ without_log, items, logs, files }, asked, known) {
   const lost = logs.filter((log) => log.left_over && !asked.includes(log.name)), names = lost.map(({ name }) => nameOf(name));
   const places = without_log.filter((place) => !known.includes(place)).map(printable), isOne = places.length === 1;
-  const its = files.find((it) => it.file !== file), table = lost.length === logs.length && its, named = table ? printable(table.file) : "";
+  const its = placesIn(files), table = lost.length === logs.length && its, named = table ? printable(table.file) : "";
   const number = items.filter((item) => item.state === "not counted").length;
   const left = number ? `${count(number, "item")} that ${number === 1 ? "belongs there isn't" : "belong there aren't"} counted`
     : "what belongs there is in other logs, or nothing does";
