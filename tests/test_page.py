@@ -1228,6 +1228,10 @@ def test_no_sum_is_named_where_none_can_be_had(page, file):
     page.drop(**{"books.csv": OF_A, "A.log": log_of("I1 RA QA I1 S")})
     page.until(".banner.read h1", "The one expected item is here, and no other answered.")
     assert "SHA-256" not in page.texts(".record")[0]
+    one_file = dict.fromkeys(["A.log", "B.log"], log_of("I1 RA QA I1 S"))
+    page.drop(**{"books.csv": OF_A + b"none,Walden,B\n", **one_file})
+    page.until(".doubts", "One may be a copy of another: by http the browser can't compare them.")
+    assert not page.texts(".doubts button")
 
 
 def test_a_browser_that_runs_no_script_of_the_page(page, file, tmp_path):

@@ -1166,6 +1166,103 @@ def test_the_catalogue_of_another_collection_is_no_older_one(page):
         page.until(".banner p", "books.csv")
 
 
+# What is opened of noon, or an hour before that, or pressed, until a newer file of a name is gone;
+# and the name of the file an hour older that then comes with a collection of its own.
+MORE = books((UID_A, ",A"), (UID_B, ",B"), (UID_C, ",A"))
+EMPTY, BEFORE = {**COMPLETE, "A.log": field()}, NOON - HOUR
+GONE = {
+    "replaced by an older catalogue": ("books.csv", {**COMPLETE, "books.csv": MORE},
+                                       ({"books.csv": BOTH}, {"books.csv": BEFORE})),
+    "a log, by a button": ("A.log", ({**EMPTY, "A.txt": field(UID_A)}, {"A.txt": BEFORE}),
+                           "Leave out A.log"),
+    "a copy, by a button": ("A.log", (COMPLETE, {"A.log": BEFORE}), {"A (1).log": field()},
+                            "Only A.log"),
+    "a catalogue, by a button": ("books.csv", ({**COMPLETE, "books (1).csv": MORE},
+                                               {"books.csv": BEFORE}), "Leave out books (1).csv"),
+    "called like a copy": ("books.csv", {"books (1).csv": MORE, **{
+        name: COMPLETE[name] for name in ("A.log", "B.log")}}),
+    "before the example": ("A.log", EMPTY, "Show an example"),
+    "not whole": ("A.log", (COMPLETE, {"A.log": BEFORE}), {"A.log.part": b"vicinity-log 3"}),
+    "not read": ("A.log", (COMPLETE, {"A.log": BEFORE}), {"A.csv": b"time,rssi\n"})}
+
+
+@pytest.mark.parametrize("how", GONE)
+def test_a_newer_file_that_was_here_is_not_forgotten(page, how):
+    """However it went, and whatever was said of it."""
+    name, *steps = GONE[how]
+    for step in [*steps, (COMPLETE, {name: BEFORE})]:
+        if isinstance(step, str):
+            pressed(page, step)
+        else:
+            files, dates = step if isinstance(step, tuple) else (step, {})
+            drop(page, files, {**{file: NOON for file in files}, **dates})
+    one = {"A.log": "the log of A"}.get(name, name)
+    assert page.texts("h1") == [
+        f"All 2 expected items are in some log; but {one} is older than one that was here."]
+    assert look(page) == "read" and page.texts(".doubts button") == ["The older one counts"]
+    pressed(page, "The older one counts")
+    until_green(page)
+
+
+def pressed(page, words):
+    """Presses the button with these words, and waits until all is judged."""
+    has = "return [...document.querySelectorAll('button')].map((it) => it.textContent)"
+    page.wait(lambda: any(it.startswith(words) for it in page.run(has)), lambda: words)
+    page.press("button", [it.startswith(words) for it in page.run(has)].index(True))
+    page.wait(lambda: page.run(IS_DONE), page.said)
+
+
+def test_a_newer_catalogue_that_a_button_left_out(page):
+    """Is asked about at once; a table that was none isn't."""
+    drop(page, {**COMPLETE, "books (1).csv": MORE}, {"books.csv": BEFORE, "books (1).csv": NOON})
+    pressed(page, "Leave out books (1).csv")
+    assert page.texts("h1")[0].endswith("but books.csv is older than one that was here.")
+    pressed(page, "The older one counts")
+    until_green(page)
+    drop(page, {"notes.csv": b"a,b\n"}, {"notes.csv": NOON + HOUR})
+    until_green(page)
+
+
+def test_who_opens_the_newer_file_once_more_takes_the_answer_back(page):
+    """It is what the page names as the other answer."""
+    drop(page, COMPLETE, {name: NOON for name in COMPLETE})
+    for number in range(2):
+        drop(page, {"B.log": field(UID_B, asks=2)}, {"B.log": BEFORE})
+        assert page.texts("h1") == IS_OLDER
+        pressed(page, "The older one counts")
+        until_green(page)
+        drop(page, {"B.log": field(*[UID_B][number:])}, {"B.log": NOON})
+    page.until("h1", "1 item missing; nothing answered in B.")
+
+
+@pytest.mark.parametrize("is_at_once", [True, False])
+def test_a_date_behind_a_dot_may_be_an_ending(page, is_at_once):
+    """The library takes both for logs of one place, and so does the page, if there is one of that
+    name: then the one is an older file of the other's name. Otherwise these are two places."""
+    table, logs = books((UID_A, ",A")), {"A.20261129": field(UID_A), "A.20261130": field()}
+    dates = {"books.csv": NOON, "A.20261129": BEFORE, "A.20261130": NOON}
+    if is_at_once:
+        drop(page, {"books.csv": table, **logs}, dates)
+        pressed(page, "Leave out A.20261130")
+    else:
+        for name in reversed(logs):
+            drop(page, {"books.csv": table, name: logs[name]}, dates)
+    assert look(page) == "read" and page.texts("h1")[0].endswith(
+        "but the log of A is older than one that was here.")
+    drop(page, {**logs, "A.20261130": field(UID_B), "books.csv": books(
+        (UID_A, ",A.20261129"), (UID_B, ",A.20261130"))}, dates)
+    until_green(page)
+
+
+def test_a_file_that_becomes_whole_takes_its_own_place(page):
+    """Beside one that isn't there is no answer, and without it none either."""
+    for files in COMPLETE, {"A.log.part": b"vicinity-log 3"}, {"A.log": field(UID_A)}:
+        drop(page, files)
+        assert look(page) == ("refused" if "A.log.part" in files else "yes")
+    assert page.texts(".note") == ["A.log.part was replaced by what you opened under the same "
+                                   "name."]
+
+
 def test_an_older_table_of_places_is_asked_about(page):
     files = {**COMPLETE, "p.csv": b"place,log\nA,A\nB,B\n"}
     drop(page, files, {name: NOON for name in files})
@@ -1280,12 +1377,14 @@ def test_an_older_log_by_itself_is_asked_about(page, tmp_path):
 
 # Which logs count, and where.
 
-@pytest.mark.parametrize("text", [b" " + field(UID_A), b"\x00\x01\x02"])
-def test_a_new_count_that_can_not_be_read_is_not_green(page, text):
+@pytest.mark.parametrize(("name", "text"), [
+    ("A.log", b" " + field(UID_A)), ("A.log", b"\x00\x01\x02"), ("A.csv", b"time,rssi\n1,2\n"),
+    ("A.xlsx", b"PK\x03\x04")])
+def test_a_new_count_that_can_not_be_read_is_not_green(page, name, text):
     """The old log of its place doesn't count in its stead."""
     drop(page, COMPLETE)
     assert look(page) == "yes"
-    drop(page, {"A.log": text})
+    drop(page, {name: text})
     assert look(page) in ("no", "refused")
     drop(page, {"B.log": field(UID_B)})
     assert look(page) in ("no", "refused")
@@ -1358,6 +1457,34 @@ def test_a_log_that_a_table_of_places_names_is_not_here(page, file, tmp_path, ho
     page.open(file)
     drop(page, {**OF_TWO, "places.csv": NAMED[how], "a2.log": field(UID_C)})
     assert "a2 of A" not in page.said()
+
+
+def test_both_tables_may_have_one_name(page):
+    """That of places is the one that names logs."""
+    files = {**OF_TWO, "places.csv": NAMED["plain"]}
+    page.run(DROP, [[name.replace("places", "books"), b64encode(text).decode(), NOON]
+                    for name, text in files.items()])
+    page.wait(lambda: page.run(IS_DONE), page.said)
+    assert page.texts(".doubts b") == ["books.csv names a2 for A, which isn't here: what may be "
+                                       "there isn't counted."]
+
+
+@pytest.mark.parametrize("is_named_later", [False, True])
+def test_a_log_that_a_button_left_out_and_a_table_names(page, is_named_later):
+    """As if it had never been here: its field isn't counted."""
+    places, old = {"places.csv": NAMED["plain"]}, {"a2.log": field(UID_C)}
+    first, later = ({}, places) if is_named_later else (places, {})
+    names = {"books.csv": BOTH, "A.log": field(UID_A), "B.log": field(UID_B)}
+    drop(page, {**(names if is_named_later else OF_TWO), **old, **first},
+         {} if is_named_later else {"a2.log": NOON - DAY})
+    pressed(page, "Leave out a2.log")
+    if later:
+        until_green(page)
+        drop(page, {"places.csv": b"place,log\nA,A\nA,a2\nB,B\n"})
+    assert page.texts("h1")[0].startswith("No log a2 of A, as places.csv names.")
+    assert look(page) == "read" and "a2.log was left out." in page.texts(".note")
+    pressed(page, "It isn't of this count")
+    until_green(page)
 
 
 def test_with_a_table_of_places_no_name_is_that_of_a_place(page):

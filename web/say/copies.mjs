@@ -25,6 +25,8 @@ const ONE_FILE = "One is a copy: leave out that of the shelf that wasn't counted
 const OLDER = "may be an older log of the same shelf: leave out the older.";
 const OVERLAP = "The fields of two readers may overlap. If not, a log is an older one, or items were carried in between: count these fields again.";
 const WHICH = "Of one field only one log counts: press that.";
+/** A page that came by http is given no sums. */
+const NO_SUMS = "One may be a copy of another: by http the browser can't compare them. Open this page as a file, or by https, and there all files.";
 
 /**
  * Doubts of which some are answered: those that aren't, and what was answered of the others.
@@ -205,10 +207,11 @@ export function shared({ logs, items, unexpected }, shelves, asked) {
     const ofOne = those.map((it) => logs[it]).filter((one, _, all) => all.some((it) => it !== one &&
       (it.place === one.place || it.left_over || one.left_over)));
     const isOlder = all && certain > 1 && ofOne.length > 1, key = those.map((it) => olderOne(logs[it])).join();
-    const overlap = those.some((it) => logs[it].left_over) ? {} : { buttons: [/** @type {Button} */ (["The fields overlap", { "data-both": key }])] };
+    const isBlind = those.some((it) => logs[it].sha256 === "" && !logs[it].surveys);
+    const overlap = isBlind || those.some((it) => logs[it].left_over) ? {} : { buttons: [/** @type {Button} */ (["The fields overlap", { "data-both": key }])] };
     const buttons = !isOlder ? overlap : ofOne.length <= MOST_LEFT ? leaving(ofOne) : {};
     return [{ short: `${count(number, "tag")} ${is} in ${those.length === 2 ? "both" : "several of"} ${firstOf(names)}`, mayNotCount: true,
-      cure: isOlder ? `One of ${those.length === 2 ? "the two" : "these"} ${OLDER}` : OVERLAP, ...buttons,
+      cure: isBlind ? NO_SUMS : isOlder ? `One of ${those.length === 2 ? "the two" : "these"} ${OLDER}` : OVERLAP, ...buttons,
       ...isAlien(at) ? { isFirst: true, numbers: [at] } : {},
       words: `${certain > 1 ? some : "The tag"} that ${name} proves ${is} proved by ${firstOf(names.filter((it) => it !== name))} too: ` +
         `${firstOf(tags, "and", MOST_TAGS)}.` }];

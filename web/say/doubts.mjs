@@ -45,7 +45,7 @@ const placesIn = (files) => files.find(({ text }) => text !== undefined);
  */
 function notHere({ logs, files }) {
   const table = placesIn(files), unread = unreadOf(table?.text ?? "", logs), name = printable(table?.file ?? ""), isOne = unread.length === 1;
-  const those = (/** @type {string} */ of) => unread.map(({ place, log }) => printable(`${log} ${of} ${place}`)), key = [table?.sha256, those("of")].join();
+  const those = (/** @type {string} */ of) => unread.map(({ place, log }) => printable(`${log} ${of} ${place}`)), key = [table?.sha256, table?.changed, those("of")].join();
   const [they, them, is] = isOne ? ["It isn't", "its row", "isn't"] : ["They aren't", "their rows", "aren't"];
   return !unread.length ? [] : [{ isFirst: true, mayNotCount: true, short: `no log ${firstOf(those("of"))}, as ${name} names`,
     words: `${name} names ${firstOf(those("for"), "and", MOST_LISTED)}, which ${is} here: what may be there isn't counted.`,
@@ -62,15 +62,13 @@ function notHere({ logs, files }) {
 function ofPlaces({ without_log, items, logs, files }, asked, known) {
   const lost = logs.filter((log) => log.left_over && !asked.includes(log.name)), names = lost.map(({ name }) => nameOf(name));
   const places = without_log.filter((place) => !known.includes(place)).map(printable), isOne = places.length === 1;
-  const its = placesIn(files), table = lost.length === logs.length && its, named = table ? printable(table.file) : "";
-  const number = items.filter((item) => item.state === "not counted").length;
+  const its = placesIn(files), table = lost.length === logs.length && its, named = table ? printable(table.file) : "", number = items.filter((item) => item.state === "not counted").length;
   const left = number ? `${count(number, "item")} that ${number === 1 ? "belongs there isn't" : "belong there aren't"} counted`
     : "what belongs there is in other logs, or nothing does";
   const noLog = { short: `no log of ${firstOf(places)}${named && `, as ${named} names none of these logs`}`, isFirst: true,
     words: `No log of ${firstOf(places, "and", MOST_LISTED)}: ${left}.`,
     cure: named ? "" : `Count ${isOne ? "it, or open its log too: it joins" : "them, or open their logs too: these join"} what is here.` };
-  const isNone = !without_log.length && items.every(({ place }) => place === null);
-  const [they, called] = lost.length > 1 ? ["them", "these names"] : ["it", "that name"];
+  const isNone = !without_log.length && items.every(({ place }) => place === null), [they, called] = lost.length > 1 ? ["them", "these names"] : ["it", "that name"];
   const unnamed = without_log.filter((place) => stemOf(`${place}.log`) !== place), name = unnamed.length ? `No file can be called ` +
     `${firstOf(unnamed.map(printable))}: write a table of places, with the columns place and log. ` : NAME_IT + (items.some(({ place, uid }) => uid && place === null) ? ANY : "");
   const how = its ? `${printable(its.file)} doesn't name ${they}: correct its column log. ` : `The catalogue has no place of ${called}. ${name}`;

@@ -42,7 +42,7 @@ export const SENTENCES = {
     "Utf8": ["the line isn't UTF-8, or has a line break in a cell", "Save the sheet as 'CSV UTF-8', and replace line breaks in cells by spaces."],
     "Quote": ["a quote isn't closed on its line, or stands where none may", "Let no line break stand in a cell, and a program write the quotes."],
     "Columns": ["these aren't the columns of a catalogue (uid) or of places (place and log), or one of them is there twice",
-      "Name one column uid, or place and log. The first line has the names, and no title or line sep=; stands before it."],
+      "Name one column uid, or place and log; beside a table of places, uid and place. The first line has the names, and no title or line sep=; stands before it."],
     "Result": ["this is what was written about a catalogue, and no catalogue", "Take the catalogue itself."],
     "Cells": ["the row has more or fewer cells than the first line", "Quote a cell that has the separator in it; let no line break stand in one."],
     "Uid": ["the cell uid has no UID of 16 hex digits that begin with E0, nor the word none",
