@@ -414,6 +414,12 @@ def test_a_shelf_without_a_log(page):
     page.is_readable()
 
 
+def test_what_may_be_in_another_log_is_not_counted_on_a_shelf_without_one(page):
+    """To finish that log says nothing of where it belongs."""
+    drop(page, {"books.csv": books((UID_A, ",A"), (UID_C, ",B")), "A.log": log_of("I16 S RA S")})
+    assert "No log of B: 1 item that belongs there isn't counted." in page.texts(".doubts b")
+
+
 def test_a_log_of_no_place(page):
     drop(page, {**COMPLETE, "cart.log": field()})
     assert page.texts("#told h1") == ["All 2 expected items are here; cart.log is of no place; "

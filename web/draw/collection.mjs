@@ -58,7 +58,7 @@ export function collectionView(object, opener = () => null, canLeave) {
   const again = `Count ${open.length === 1 ? "it" : "each"} again, to the end, in a new log.`, step = deaf.length ? [IF_HEARD] : SENTENCES.steps.nothing;
   const byEye = counts["no tag"] ? [`Look for ${count(counts["no tag"], "item")} by eye, as said below.`] : [];
   const steps = [...byEye, ...object.wanted ? [ASK_MORE] : hiding.length ? SENTENCES.steps.oneMore : byEye.length ? [] : step].map((it) => el("li", {}, it));
-  const look = (counts.missing ? `Missing items ${logs.length > 1 ? "answered on no shelf" : "didn't answer"}. ${LOOK_FOR}` : "") +
+  const look = (counts.missing ? `Missing items ${logs.length > 1 ? "answered on no shelf that was counted" : "didn't answer"}. ${LOOK_FOR}` : "") +
     (counts.unexpected ? NOT_EXPECTED : "") + (counts.returned ? IS_BACK : "");
   const drawn = (/** @type {string} */ title, /** @type {string} */ words, /** @type {number[]} */ list, isFirst = false) =>
     logsOf(title, words, list, isFirst, object, opener);

@@ -62,9 +62,9 @@ function notHere({ logs, files }) {
 function ofPlaces({ without_log, items, logs, files }, asked, known) {
   const lost = logs.filter((log) => log.left_over && !asked.includes(log.name)), names = lost.map(({ name }) => nameOf(name));
   const places = without_log.filter((place) => !known.includes(place)).map(printable), isOne = places.length === 1;
-  const its = placesIn(files), table = lost.length === logs.length && its, named = table ? printable(table.file) : "", number = items.filter((item) => item.state === "not counted").length;
-  const left = number ? `${count(number, "item")} that ${number === 1 ? "belongs there isn't" : "belong there aren't"} counted`
-    : "what belongs there is in other logs, or nothing does";
+  const its = placesIn(files), table = lost.length === logs.length && its, named = table ? printable(table.file) : "", those = new Set(without_log);
+  const number = items.filter(({ state, place }) => state === "not counted" || state === "not provable" && those.has(place ?? "")).length;
+  const left = number ? `${count(number, "item")} that ${number === 1 ? "belongs there isn't" : "belong there aren't"} counted` : "what belongs there is in other logs, or nothing does";
   const noLog = { short: `no log of ${firstOf(places)}${named && `, as ${named} names none of these logs`}`, isFirst: true,
     words: `No log of ${firstOf(places, "and", MOST_LISTED)}: ${left}.`,
     cure: named ? "" : `Count ${isOne ? "it, or open its log too: it joins" : "them, or open their logs too: these join"} what is here.` };
