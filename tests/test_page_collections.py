@@ -485,16 +485,20 @@ def test_it_is_asked_which_of_two_is_the_older(page, how, tmp_path):
     assert re.match(rf"Leave out {earlier}, the older file, of \d+ Nov 2026, \d\d:\d\d$", first)
     assert re.match(rf"Leave out {later} of \d+ Nov 2026, \d\d:\d\d$", second)
     page.press(".doubts button", at + 1)
+    if how == "of one place":
+        page.until("h1", "No log B-today of B, as p.csv names.")
+        pressed(page, "It isn't of this count")
     page.until(".banner.yes h1", "All 3 expected items are here, and no others.")
-    assert page.texts(".note, .banner h1")[0] == f"{later} was left out."
+    assert f"{later} was left out." in page.texts(".note")
     made = saved(page, tmp_path / "saved")
-    page.press("#back")
+    for _ in range(1 + (how == "of one place")):
+        page.press("#back")
     page.until("h1", "in both" if how != "of no place" else "is of no place")
     page.press(".doubts button", at)
     page.until("h1", "1 item missing" if how != "of no place" else "no log of B")
     assert look(page) == "no" and page.texts(".note") == [f"{earlier} was left out."]
     page.open(made)
-    assert page.texts(".note, .banner h1")[0] == f"{later} was left out."
+    assert f"{later} was left out." in page.texts(".note")
 
 
 def test_what_was_left_out_is_said_until_it_is_back(page):
