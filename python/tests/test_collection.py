@@ -8,8 +8,9 @@ from pathlib import Path
 from unittest import mock
 
 import vicinity
-from cases import (A, ALL, B, COLLECTION, HEARD_A, HEARD_B, LIST_A, NOTHING, SHELVES, SILENCE_A,
-                   SILENCE_B, Command, command, least, log, on_a_terminal, third, within)
+from cases import (A, ALL, B, COLLECTION, HEARD_A, HEARD_B, LIST_A, LIST_B, NOTHING, SHELVES,
+                   SILENCE_A, SILENCE_B, Command, command, least, log, on_a_terminal, third,
+                   within)
 from helpers import collection_rows
 from helpers.records import drawn_in
 from vicinity import Mask
@@ -128,8 +129,10 @@ class Asked(Command):
         self.assertEqual((errors, status), (b"", 1))
         self.assertEqual((told.pop("version"), told.pop("file")),
                          (vicinity.__version__.partition(".dev")[0], "catalogue.csv"))
-        self.assertEqual([it["file"] for it in told.pop("files")], TABLES)
+        self.assertEqual([it["file"] for it in told.pop("files")],
+                         ["catalogue.csv", "places.csv"])
         objects = [log.pop("object") for log in told["logs"]]
+        self.assertEqual([it.pop("denied") for it in told["logs"]], [[]] * 3)
         self.assertEqual([it.pop("sha256") for it in told["logs"]],
                          [sha256(Path(name).read_bytes()).hexdigest() for name in SHELVES])
         self.assertEqual([it.pop("changed") for it in told["logs"]],
@@ -156,8 +159,7 @@ class Asked(Command):
                                *names)[0].decode())[0]
         self.assertEqual([it.get("object", {}).get("file") for it in told["logs"]],
                          ["a", "large", None, "open"])
-        self.assertEqual([it.get("denied") for it in told["logs"]],
-                         [None, None, ["E0040100000000A1"], None])
+        self.assertEqual([it["denied"] for it in told["logs"]], [[], [], ["E0040100000000A1"], []])
 
     def test_a_page_has_the_table_of_places(self):
         """Without the mark of UTF-8, to say which logs it names that aren't here."""
@@ -269,6 +271,10 @@ class Asked(Command):
             for form in FORMS[1:]:
                 said, errors, status = command("collection", *form, *words, given=given)
                 self.assertEqual((errors, status, b"there" in said), (b"", 0, True))
+        drawn = command("collection", "--page", catalogue, "-", given=log(
+            ALL + HEARD_A + SILENCE_A + ALL + b"S\n" + LIST_A + LIST_B))[0]
+        self.assertEqual([(it["denied"], it.get("changed")) for it in drawn_in(
+            drawn.decode())[0]["logs"]], [(["E0040100000000B2"], None)])
 
     def test_jobs_keep_the_order(self):
         names = [self.write(f"{number}.log", NOTHING if number % 3 else log(ALL + HEARD_A))

@@ -105,7 +105,8 @@ class Said(Command):
                 (log(ALONE + LIST_A), DEAF + " That takes a log of version 2 or 3: one of "
                  "version 1 has no line for it."),
                 (third(ALONE + b"F\n" + CURED[-len(HEARD_A) - 27:] + LIST_A),),
-                (third(alone), "Left to ask; add the new lines to the log, and judge it again:",
+                (third(alone), "Left to ask: before the U lines if the field stayed on, else in a "
+                 "new log:",
                  "T 060100CD09 asks all UIDs"),
                 (third(silenced), "Switch the field off and on, write F, and send 1 request for "
                  "tags that were silenced before they were heard: only then do they answer.", "F",

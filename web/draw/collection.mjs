@@ -24,19 +24,18 @@ import { banner, doubted, notes, signed, view } from "./view.mjs";
 /** How many logs are drawn, how many items are seen unfolded, how many stand on paper that are here, how many masks are named, and how
  *  many cells of the catalogue are the name of an item. */
 const MOST_LOGS = 2000, FEW_ITEMS = 200, MOST_PRINTED = 100, MOST_MASKS = 3, MOST_CELLS = 2;
-const LOOK_FOR = "One that you find: its tag is covered, broken or not the one in the catalogue, or its reply was lost; move it, and count " +
-  "again. One that you don't find: leave its row in the catalogue. ";
+const LOOK_FOR = "If you find one, its tag is covered, broken or not the one in the catalogue, or its reply was lost: move it, and count " +
+  "again. If you don't, leave its row in the catalogue. ";
 const NOT_EXPECTED = "What isn't in the catalogue: find it by reading the items one by one, and bring it to where it belongs, or add it. ";
 const IS_BACK = "What is back was away, as the catalogue says: record that it is here.";
 const ELSEWHERE = "The logs of their shelves rule these out. Count again first, as said above; then look there: a tag may be covered.";
 const NO_TAG = "These rows of the catalogue have no UID, so nothing is known of them: look for them by eye.";
 const UNKNOWN_YET = "Whether these are here isn't known until the logs above are counted again.";
 const NOT_COUNTED = "Nothing is known of these, as their places have no log.", IN_FULL = "The whole list is in the page, not on paper.";
-const WAITS = "Open or drop the logs, in any order. A catalogue says what should be here: a list of what was read is none, it would always agree.";
+const WAITS = "Open or drop the logs, in any order; each is of the place after which it is named, as A.log of A. A catalogue says what should be here: a list of what was read would always agree.";
 const AGAIN_BROKEN = " If a log contradicts itself again, send it and this page to whoever maintains the reader.";
 const STRAYS = "Of these it isn't known where they were heard: their logs are of no place. Where to find them is known once the places are.";
-const ASK_MORE = "Count again, with readers that ask all once more at the end.";
-const CARRIED = "Nothing was carried from one field to another while the logs were written.";
+const ASK_MORE = "Count again, with readers that ask all once more at the end.", CARRIED = "Nothing was carried between fields while the logs were written.";
 const ONCE_AGAIN = `Of these a strong reply may have hidden others: ${TO_KNOW}.`;
 const PROVED = "What is said of each item and log is what the library writes of these files, which is proved; how the page draws it is tested.";
 
@@ -48,7 +47,7 @@ const PROVED = "What is said of each item and log is what the library writes of 
  */
 export function collectionView(object, opener = () => null, canLeave) {
   const { shelves, doubts, answered, of, elsewhere, others, strays, open, hiding, deaf, isComplete } = summaryOf(object), said = sayAll(object);
-  const { counts, logs } = object, here = of("in place", "there"), home = (/** @type {Item} */ { place }) => printable(place ?? ""), file = printable(object.file);
+  const { counts, logs, without_log: places } = object, here = of("in place", "there"), home = (/** @type {Item} */ { place }) => printable(place ?? ""), file = printable(object.file);
   const above = notes([...object.left ?? [], ...answered]), asked = doubted("Logs and shelves", doubts, canLeave);
   if (!logs.length) return [...above, banner(said, file), ...asked, el("p", {}, WAITS)];
   const mayBe = { "may be in": (/** @type {Item} */ item) => shelves.mayBe(item) }, at = (/** @type {Item} */ item) => shelves.at(item);
@@ -58,7 +57,8 @@ export function collectionView(object, opener = () => null, canLeave) {
   const again = `Count ${open.length === 1 ? "it" : "each"} again, to the end, in a new log.`, step = deaf.length ? [IF_HEARD] : SENTENCES.steps.nothing;
   const byEye = counts["no tag"] ? [`Look for ${count(counts["no tag"], "item")} by eye, as said below.`] : [];
   const steps = [...byEye, ...object.wanted ? [ASK_MORE] : hiding.length ? SENTENCES.steps.oneMore : byEye.length ? [] : step].map((it) => el("li", {}, it));
-  const look = (counts.missing ? `Missing items ${logs.length > 1 ? "answered on no shelf that was counted" : "didn't answer"}. ${LOOK_FOR}` : "") +
+  const first = places.length ? ` that was counted. First count ${firstOf(places.map(printable))}: they may be there` : "";
+  const look = (counts.missing ? `Missing items ${logs.length > 1 || first ? `answered on no shelf${first}` : "didn't answer"}. ${LOOK_FOR}` : "") +
     (counts.unexpected ? NOT_EXPECTED : "") + (counts.returned ? IS_BACK : "");
   const drawn = (/** @type {string} */ title, /** @type {string} */ words, /** @type {number[]} */ list, isFirst = false) =>
     logsOf(title, words, list, isFirst, object, opener);

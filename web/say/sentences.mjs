@@ -73,7 +73,7 @@ export const SENTENCES = {
     "packed": ["^(?:\u001F\uFFFD\b|BZh|\uFFFD7zXZ|7z\uFFFD\uFFFD'|Rar!|\\(\uFFFD/\uFFFD)", ", but a packed file", "Unpack it, and open what was in it."],
     "trace": ["^\\s*(?:\\[[+=!#?|-]\\] |\\[(?:usb|bt|fpc)|pm3 |proxmark|Recorded activity|Start \\| +End \\| Src)", ", but a trace of a Proxmark",
       "It hasn't the slots in which no tag answered, so it can't show whether a tag was missed.",
-      "Ask whoever maintains a reader for a log: READERS of vicinity says which readers can write one, and how."],
+      "Ask whoever maintains a reader for a log: docs/READERS.md of vicinity says which readers can write one, and how."],
     "json": ["^\\s*(?:\\{\\s*[\"}]|\\[\\s*[{\"\\[]|[{\\[]\\s*$)", ", but JSON, which programs exchange", "Open the log of which it was written, or a table (CSV)."],
     "turned": ["^\\W{0,3}(?!E0)(?:[0-9A-F]{2}[ :.-]?){7}E0\\W{0,3}$", ", but a list of tag numbers whose bytes are in the opposite order, with E0 last",
       "If it is what should be here: turn the bytes of each number round, so that E0 comes first, write uid as the first line, and open it with the logs."],
@@ -103,11 +103,11 @@ export const SENTENCES = {
   "parts": {
     "count": "Don't change this line. Count again, using only Inventory and Stay Quiet.",
     "crc": "Write the frame as it was on the air, with both bytes of its CRC, low byte first. If the chip removes the CRC, add it again.",
-    "damaged": "A reply that was damaged gets the line D in a log of version 2 or 3; in version 1 its slot, and the rest of its round, get no line.",
+    "damaged": "A reply that was damaged gets the line D in a log of version 2 or 3, or N in version 3 if it may have been noise; in version 1 its slot, and the rest of its round, get no line.",
     "logger": "Fix the software that writes the log."
   },
   "steps": {
-    "nothing": ["Nothing to do."], "hears": ["Nothing to do, if the reader worked to the end. How whoever maintains it can see that stands below."],
+    "nothing": ["Nothing to do."], "hears": ["Nothing to do, if the reader worked to the end: whoever maintains it can see whether it did."],
     "empty": ["If items should be here: check the antenna, switch the reader off and on, and count again.",
       "If nothing should be here: lay an item with a tag at the antenna, and count again. Once it is found, there is nothing else to do."],
     "oneMore": ["Spread out items that lie on each other, and count again.",

@@ -4,8 +4,9 @@ import codecs
 import json
 import os
 from concurrent.futures import ThreadPoolExecutor
+from functools import partial
 from hashlib import sha256
-from typing import Any, Iterator, Sequence
+from typing import Any, Iterator, Mapping, Optional, Sequence
 
 from .._native import VERSION, library
 from .._objects import NOT_COMPLETE, Object, object_of, too_small
@@ -35,13 +36,15 @@ MOST_TEXT, MOST_NAMES = 4_000_000, 20
 
 #: Names of files, each with its text; two may have one name.
 Files = Sequence[tuple[str, bytes]]
+#: Names of logs, each with the UIDs that are on its own list and that it rules out.
+Denied = Mapping[str, list[str]]
 
 
 def collection(arguments: Arguments) -> int:
     """Writes what logs say of a catalogue, and returns the status."""
     library()
     form, wanted = arguments.form, arguments.margin
-    files, logs = _read(names_of(arguments), arguments.jobs)
+    files, logs = _read(names_of(arguments), arguments.jobs, form == "page")
     written, answer = _written(WRITES[form], files), dict[str, Any]()
     is_measured = wanted > 0 and written.status == 0
     is_shown = form == "lines" and os.isatty(2)
@@ -66,20 +69,25 @@ def collection(arguments: Arguments) -> int:
     return NOT_COMPLETE if less else written.status
 
 
-def _read(names: Sequence[str], jobs: int) -> tuple[Files, set[str]]:
-    """The texts of files, of logs their surveys; and which of the files are logs. The library's
-    calls run side by side."""
+def _read(names: Sequence[str], jobs: int, is_drawn: bool) -> tuple[Files, Denied]:
+    """The texts of files, of logs their surveys; and what each log rules out of its own list,
+    if a page is drawn. The library's calls run side by side."""
     with ThreadPoolExecutor(jobs) as pool:
-        files = list(pool.map(_file, names) if jobs > 1 else map(_file, names))
-    return [file for file, _ in files], {name for (name, _), is_log in files if is_log}
+        each = partial(_file, is_drawn)
+        files = list(pool.map(each, names) if jobs > 1 else map(each, names))
+    denied = {name: uids for (name, _), uids in files if uids is not None}
+    return [file for file, _ in files], denied
 
 
-def _file(name: str) -> tuple[tuple[str, bytes], bool]:
-    """A file with its text, of a log its survey; and whether it is a log."""
+def _file(is_drawn: bool, name: str) -> tuple[tuple[str, bytes], Optional[list[str]]]:
+    """A file with its text, of a log its survey; and what a log rules out of its own list."""
     try:
         text = read(name)
-        is_log = not text or text.startswith(LOG) and not text.startswith(SURVEYS)
-        return (name, _written("survey", [(name, text)]).text if is_log else text), is_log
+        if text.startswith(SURVEYS) or text and not text.startswith(LOG):
+            return (name, text), None
+        findings = object_of(text)["findings"] if is_drawn else []
+        denied = [finding["uid"] for finding in findings if finding["kind"] == "absent"]
+        return (name, _written("survey", [(name, text)]).text), denied
     except MemoryError:
         raise NoAnswer(f"out of memory: {shown(name)}") from None
 
@@ -107,7 +115,7 @@ def _less(answer: Object, wanted: int) -> str:
     return too_small(least, wanted, where)
 
 
-def _page(files: Files, logs: set[str], found: Object) -> Iterator[str]:
+def _page(files: Files, logs: Denied, found: Object) -> Iterator[str]:
     """One HTML file that draws the object, with when each log's file was changed, and the texts of
     logs, those first that have to be counted again. Some of the files are logs."""
     surveys, room = dict(files), MOST_TEXT
@@ -122,20 +130,17 @@ def _page(files: Files, logs: set[str], found: Object) -> Iterator[str]:
                 raise NoAnswer(f"{shown(name)} has changed since it was read first")
             log["sha256"] = sha256(text).hexdigest()
         log.update([("changed", age) for age in (
-            _changed(name) if name in logs else sorted(ages)[:1])])
+            _changed(name) if name in logs else sorted(ages)[:1])], denied=logs.get(name, []))
         room -= len(text)
         if text and room >= 0:
             log["object"] = page_object(shown(os.path.basename(name)), JudgedLog(text))
-        elif text:
-            log["denied"] = [tag["uid"] for tag in object_of(text)["findings"]
-                             if tag["kind"] == "absent"]
     tables = _tables(files)
     name = shown(os.path.basename(next(name for name, text in tables if columns_of(text))))
     # of a table of places the page says which logs it names
     found.update(version=VERSION, file=name, files=[
-        {"file": name, "sha256": sha256(text).hexdigest(), **(
+        {"file": shown(os.path.basename(it)), "sha256": sha256(text).hexdigest(), **(
             {} if columns_of(text) else {"text": text.decode("utf-8-sig")})}
-        for name, text in tables])
+        for it, text in tables])
     lines = _written("reconcile", files).text.decode()
     answer = _less(found, found["wanted"]) if "wanted" in found else found["answer"]
     return document(f"{name}: {answer}", [json.dumps(found)], lines.splitlines())

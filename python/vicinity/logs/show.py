@@ -34,7 +34,7 @@ LEGEND = {"·": "no tag", "╳": "two or more", "?": "unreadable", "-": "nothing
 #: Findings that a UID and a line say.
 LISTED = FindingKind.ABSENT, FindingKind.UNLISTED, FindingKind.DOUBTFUL
 REQUESTS = SENTENCES["requests"]
-LEFT = "Left to ask; add the new lines to the log, and judge it again:"
+LEFT = "Left to ask: before the U lines if the field stayed on, else in a new log:"
 MORE, OTHERS = "Causes, and what to do: python3 -m vicinity page LOG", "⋮  more"
 
 
