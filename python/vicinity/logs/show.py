@@ -132,9 +132,8 @@ def _picture(log: JudgedLog, look: Look, most: int) -> Iterator[str]:
     if slots:
         yield from lines(f"{'lines':>{labels}}  asked", [" the one slot"] if slots == 1 else
                          [f"{slot:>2X} " for slot in range(SLOTS)])
-    for before, (index, row) in zip([-1, *drawn], drawn.items()):
-        if index > before + 1:
-            yield f"{'⋮':>{labels}}  {count(index - before - 1, 'row')}"
+    # the first row is drawn where any is
+    for (index, row), behind in zip(drawn.items(), [*drawn, len(rows.lines)][1:]):
         head = f"{span(row.line, row.end):>{labels}}{'!' if row.line in named else ' '} "
         if row.request is None:
             yield f"{head}field off and on"
@@ -144,6 +143,8 @@ def _picture(log: JudgedLog, look: Look, most: int) -> Iterator[str]:
                              + f";{NAMED}" * (slot.line in named)) for slot in row.slots])
         else:
             yield f"{head}Stay Quiet {uid_text(row.request.uid)}"
+        if behind > index + 1:
+            yield f"{'⋮':>{labels}}  {count(behind - index - 1, 'row')}"
     if rows.listed:
         yield f"{span(*rows.list_lines):>{labels}}  {rows.listed:,} listed"
     yield from look.joined(_legend(drawn.values(), named), ", ")[:MOST_LEGEND]
