@@ -2,7 +2,7 @@ use Rattle.std.proofs.Common.{◌∙◌, ap, sym}
 use Rattle.vic_log.proofs.Cautious.{deaf_of_hidden, deaf_same}
 use Rattle.vic_log.specs.Deaf.{deaf_entries}
 use Rattle.vic_log.specs.Order.{entries}
-use Rattle.vic_object.proofs.cautious.cautious_of_other.Goals as goal
+use Rattle.vic_object.proofs.cautious.judged_readings.Goals as goal
 
 pub returns-then-not-falls_silent : goal.returns-then-not-falls_silent
 returns-then-not-falls_silent c =

@@ -4,7 +4,7 @@ use Rattle.vic_frame.specs.Uids.{has}
 use Rattle.vic_log.specs.Order.{entries, listed}
 use Rattle.vic_margin.specs.Margins.{IsWeakest, IsWeakestBesides}
 use Rattle.vic_object.proofs.Measured.{weakest_same}
-use Rattle.vic_object.proofs.cautious.weakest_of.Goals as goal
+use Rattle.vic_object.proofs.cautious.weakest_by_parts.Goals as goal
 
 pub returns : goal.returns
 returns c =

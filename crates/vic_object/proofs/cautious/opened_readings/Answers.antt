@@ -5,7 +5,7 @@ use Rattle.vic_log.specs.Order.{entries}
 use Rattle.vic_log.specs.declared.entry.Entry.{Entry}
 use Rattle.vic_margin.proofs.Telling.{keys_listed}
 use Rattle.vic_margin.specs.Readings.{IsFirstOpened}
-use Rattle.vic_object.proofs.cautious.cautious_of_complete.Goals as goal
+use Rattle.vic_object.proofs.cautious.opened_readings.Goals as goal
 
 pub readings_of_complete-requires-clause-verdict : goal.readings_of_complete-requires-clause-verdict
 readings_of_complete-requires-clause-verdict c = (c.args.count, c.requires)
