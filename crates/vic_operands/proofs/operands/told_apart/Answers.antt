@@ -1,6 +1,6 @@
 use Rattle.std.proofs.Common.{◌∙◌, inr, refl, sym}
 use Rattle.vic_operands.proofs.GatheringLaws.{asked_where, unasked_both}
-use Rattle.vic_operands.proofs.operands.unlike.Goals as goal
+use Rattle.vic_operands.proofs.operands.told_apart.Goals as goal
 
 pub returns-then-unasked : goal.returns-then-unasked
 returns-then-unasked c files named t name unlike is =

@@ -1,7 +1,7 @@
 use Rattle.std.proofs.lemmas.Result.{IfOk-weaker}
 use Rattle.vic_operands.proofs.ListLaws.{gathered-behind_list, gathered-no_list, gathered-none, gathered-unnamed}
 use Rattle.vic_operands.specs.declared.gathered.Gathered.TheVariants.{Refused}
-use Rattle.vic_operands.proofs.reconcile_operands.gathered.Goals as goal
+use Rattle.vic_operands.proofs.reconcile_operands.gather_state.Goals as goal
 
 pub returns-in-Nothing : goal.returns-in-Nothing
 returns-in-Nothing c files h = gathered-none files (rw c.in-Nothing.is at h)

@@ -1,7 +1,7 @@
 use Rattle.std.proofs.Common.{◌∙◌, ◌≤◌, ap, arith, inl, inr, length, sym}
 use Rattle.std.proofs.lemmas.Result.{IfOk-weaker}
 use Rattle.vic_operands.proofs.GatheringLaws.{are_together, at_most_one, catalogue_name, no_operands, none_popped}
-use Rattle.vic_operands.proofs.operands.gather.Goals as goal
+use Rattle.vic_operands.proofs.operands.gather_kept.Goals as goal
 
 pub returns-then-as_slice-ne1 : goal.returns-then-as_slice-ne1
 returns-then-as_slice-ne1 c files named h = inr (no_operands files _ _ _ h (inl (λ is. c.if-as_slice-ne1.true (ap length c.as_slice.ensures.value ∙ is))))
@@ -17,6 +17,6 @@ returns-in-Some c =
     let popped = c.pop-in-Some.ensures in
     let rows = at_most_one places c.pop-in-Some.new.self.items c.pop-in-Some.result popped.items few
     (none_popped places c.pop-in-Some.new.self.items c.pop-in-Some.result _ popped.items popped.rest (λ e. (rw e at popped.cases).0)) in
-    IfOk-weaker c.together.result _ _ (λ gathered g files named h. g files named
+    IfOk-weaker c.gather_parts.result _ _ (λ gathered g files named h. g files named
     (are_together files _ _ c.in-Some.catalogue places c.pop-in-Some.result _ h c.in-Some.ensures.items one rows)
-    (catalogue_name files _ _ c.in-Some.catalogue _ _ h c.in-Some.ensures.items one)) c.together.ensures
+    (catalogue_name files _ _ c.in-Some.catalogue _ _ h c.in-Some.ensures.items one)) c.gather_parts.ensures

@@ -1,7 +1,7 @@
 use Rattle.std.proofs.Common.{◌≡◌, ◌∙◌, [], ◌∷◌, false, ap, refl, subst, sym}
 use Rattle.vic_operands.specs.Kinds.{is_list}
 use Rattle.vic_operands.specs.inner.States.{HasTakenBy}
-use Rattle.vic_operands.proofs.reconcile_operands.first.Goals as goal
+use Rattle.vic_operands.proofs.reconcile_operands.with_first.Goals as goal
 
 pub returns : goal.returns
 returns c name =
