@@ -18,6 +18,7 @@ from helpers.screen import Screen
 
 SEED, NUMBER, PARTS = 15693, 100, 2
 # What may be wrong, by the light that says it.
+UNSETTLED = "Found, if all logs count"
 READINGS = {"If replies were hidden": "hidden", "If the reader went deaf": "deaf"}
 DROP = """
 const data = new DataTransfer();
@@ -180,16 +181,16 @@ def compare(page, told):
                         for log in told["logs"])
         wanted = ("still complete" if holds else "others may be here") if is_complete else (
             "the answer may be wrong" if is_missing and not holds else None)
-        assert lights.get(light) == (None if "In some log" in lights and holds else wanted), told
+        assert lights.get(light) == (None if UNSETTLED in lights and holds else wanted), told
     assert not is_complete or "and no others." not in headline or (
         lights["If the reader went deaf"] == "still complete")
-    place = next(it for it in ("In some log", "In place", "Here") if it in lights)
-    number = (sum(bool(it["certain_in"]) for it in told["items"]) if place == "In some log" else
+    place = next(it for it in (UNSETTLED, "In place", "Here") if it in lights)
+    number = (sum(bool(it["certain_in"]) for it in told["items"]) if place == UNSETTLED else
               sum(told["counts"][state] for state in ("in place", "there")))
     assert lights[place].startswith(f"{number} of {len(told['items'])} item")
     done = sum(log["field"] == "possible" and not log["open"] and not log["hidden"]
                for log in told["logs"])
-    assert lights["Search finished"].startswith(f"{done} of {len(told['logs'])} log")
+    assert lights["Counted to the end"].startswith(f"{done} of {len(told['logs'])} log")
     return {"complete" if is_complete else "not complete", "green" if look(page) == "yes" else "",
             "without a log" if told["without_log"] else "",
             "left over" if any(log["left_over"] for log in told["logs"]) else ""}
@@ -215,7 +216,8 @@ def test_where_a_reader_may_have_gone_deaf_nothing_is_green(page):
     """As of a list: it says so, and what shows whether the reader heard."""
     drop(page, {**COMPLETE, "B.log": field(UID_B, is_heard=False)})
     assert (look(page), page.texts(".lights dd")[-1]) == ("read", "others may be here")
-    assert page.texts("#told h1") == ["All 2 expected items are here, and no others answered."]
+    assert page.texts("#told h1") == [
+        "All 2 expected items are here, and no others, if the reader of B heard to the end."]
     assert "deaf after the last answer of a tag, the answer may be wrong in the field of B" in (
         page.texts(".holds p")[-1])
 
@@ -259,7 +261,7 @@ def test_a_log_of_a_collection_says_how_sure_it_is(page):
     drop(page, {**COMPLETE, "B.log": field(UID_B, is_heard=False)})
     page.press("details:has(.logs) > summary")
     page.press(".logs summary", 1)
-    page.until(".logs h3", "1 tag is here, and no other answered.")
+    page.until(".logs h3", "1 tag is here, and no other, if the reader heard to the end.")
     assert page.texts(".logs dt") == ["Search finished", "If the reader went deaf"]
     assert page.texts(".logs dd") == ["yes", "others may be here"]
     page.until(".logs .holds p", "If the reader had gone deaf after the last answer of a tag,")
@@ -295,7 +297,9 @@ def test_a_catalogue_that_may_have_been_cut_off(page):
 
 def test_where_others_may_be_hidden_something_is_left_to_ask(page):
     drop(page, {**COMPLETE, "B.log": log_of("I1 RB")})
-    assert page.texts(".steps li")[0] == "Spread out items that lie on each other, and count again."
+    assert page.texts(".steps li")[0] == (
+        "Spread out items that lie on each other in the field of B, and count again.")
+    assert page.texts(".steps li")[1].startswith("If it stays so, send the log of B and this page")
     assert page.texts(".lights dd")[0] == "1 of 2 logs"
     assert page.texts("#told > details > summary")[:3] == [
         "Ask all once more (1 log)", "Here (2 items)", "Searched to the end (1 log)"]
@@ -410,7 +414,7 @@ def test_a_shelf_without_a_log(page):
     drop(page, {"books.csv": BOTH, "A.log": field(UID_A)})
     assert page.texts("#told h1") == ["1 item not counted; no log of B."]
     assert page.texts(".doubts b") == ["No log of B: 1 item that belongs there isn't counted."]
-    assert page.texts(".lights dd") == ["1 of 1 log, no log of 1 place", "1 of 2 items"]
+    assert page.texts(".lights dd") == ["1 of 1 log; 1 place has none", "1 of 2 items"]
     page.is_readable()
 
 
@@ -1092,7 +1096,7 @@ def test_a_log_of_half_a_day_before_is_not_green(page, late, answer):
     page.media("print")
     page.run(PRINTS)
     # no result is signed while a question is open; each log has the date of its file
-    assert "This sheet is no result: a question above is open." in page.said()
+    assert page.said().startswith("This is no result yet: answer what is asked below")
     assert "Counted on" not in page.said()
     assert re.search("of 1[78] Nov 2026", "\n".join(page.texts(".sum")))
     page.media()
@@ -1359,7 +1363,7 @@ def test_an_older_log_by_itself_is_asked_about(page, tmp_path):
     assert "Nothing to do" not in page.said()
     page.media("print")
     page.run(PRINTS)
-    assert "This sheet is no result: a question above is open." in page.said()
+    assert page.said().startswith("This is no result yet: answer what is asked below")
     assert "Counted on" not in page.said()
     page.media()
     made = saved(page, tmp_path / "asked")
@@ -1414,7 +1418,7 @@ def test_a_copy_of_a_log_that_is_not_here(page):
     assert look(page) == "no"
     assert page.texts("h1") == ["1 item heard in a log of no place; no log of B, unless B (1).log "
                                 "is it."]
-    assert page.texts(".lights dt")[1] == "In some log"
+    assert page.texts(".lights dt")[1] == UNSETTLED
     assert page.texts(".lights dd")[1] == "2 of 2 items"
     assert page.texts(".doubts button") == ["Count it as B", "Leave out B (1).log"]
     page.press(".doubts button")
@@ -1729,7 +1733,8 @@ def test_no_log_of_another_shelf_is_left_out(page):
 def test_where_all_are_here_and_a_log_is_not_finished(page):
     drop(page, {**COMPLETE, "B.log": log_of("I16 S2 RB S9")})
     page.until("h1", "All 2 expected items are here; count B again, as others may be there.")
-    assert look(page) == "no" and page.texts(".lights dt") == ["Search finished", "In place"]
+    assert look(page) == "no" and page.texts(".lights dt") == [
+        "Counted to the end", "In place"]
 
 
 def test_an_item_without_a_tag_is_looked_for(page):
@@ -1833,7 +1838,8 @@ def test_a_log_is_saved_though_another_is_opened(page, tmp_path):
     opens = ("const data = new DataTransfer(); data.items.add(new File(['x'], 'B.log')); document"
              ".dispatchEvent(new DragEvent('drop', { dataTransfer: data, bubbles: true }));")
     made = saved(page, tmp_path / "saved", opens)
-    assert made.name == "A.log.html" and drawn_in(made.read_text())[0]["certain"]["count"] == 1
+    assert re.fullmatch(r"A \d{4}-\d\d-\d\d \d{4}\.html", made.name)
+    assert drawn_in(made.read_text())[0]["certain"]["count"] == 1
 
 
 def test_a_list_of_logs_is_saved_once(page, tmp_path):
