@@ -336,6 +336,18 @@ def test_in_the_colours_of_the_system_nothing_is_lost(page, scheme):
     assert pressed != other
 
 
+def test_the_first_screen_says_what_it_is_for(page):
+    """Also once all is closed: what this is, what to do, and what comes of it."""
+    for _ in range(2):
+        assert page.texts(".start h2") == ["What this is", "What to do", "What you get"]
+        assert len(page.texts(".answers li")) == 4
+        assert page.texts("#beside h2") == ["Or paste a log here"]
+        page.is_readable()
+        page.drop(**{"A.log": b""})
+        page.until("h1", "The file A.log is empty.")
+        page.press("#close")
+
+
 def test_print_is_a_record(page):
     """With all that is folded, what is taken for granted, a sum of the log, and a line to sign."""
     page.drop(log=log_of("I16 S RA RB S13 UA UB"))
@@ -345,7 +357,7 @@ def test_print_is_a_record(page):
     said = "\n".join(page.texts("body"))
     for words in "E0040100000000A1", "Each tag has power", "SHA-256 of the log", "Counted on":
         assert words in said
-    assert "Open logs" not in said and not page.driver.find_element("id", "text").is_displayed()
+    assert "Open files" not in said and not page.driver.find_element("id", "text").is_displayed()
 
 
 def test_each_sheet_names_the_file(page):
@@ -1268,8 +1280,11 @@ def test_a_page_that_was_saved_is_read_without_its_script(page, tmp_path):
     page.until("h1", IF_HEARD)
     file = saved(page, tmp_path / "saved")
     page.open(file)
-    assert (page.texts("h1"), page.texts("#old")) == (
-        [IF_HEARD], [])
+    assert (page.texts("h1"), page.texts("#old")) == ([IF_HEARD], [])
+    (top,), (record,) = page.texts(".name"), page.texts(".record")
+    assert re.fullmatch(r"vicinity \d+\.\d+\.\d+ · log · saved on \d+ \w+ \d{4}, \d\d:\d\d", top)
+    assert "SHA-256 of the log" in record
+    page.is_readable()
     file.write_text(file.read_text().replace('<script type="module">', '<script type="module">;'))
     page.open(file)
     page.wait(page.driver.find_element("id", "old").is_displayed)

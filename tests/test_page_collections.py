@@ -88,6 +88,7 @@ def books(*rows, head="uid,title,place"):
 
 
 BOTH = books((UID_A, ",A"), (UID_B, ",B"))
+PLACES_OF_A = b"place,log\nA,A.log\n"
 COMPLETE = {"books.csv": BOTH, "A.log": field(UID_A), "B.log": field(UID_B)}
 
 
@@ -408,6 +409,33 @@ def test_one_log_needs_no_places(page):
     drop(page, {"books.csv": books((UID_A, ""), head="uid,title"), "A.log": field(UID_A)})
     assert (look(page), page.texts("#told h1")) == (
         "yes", ["The one expected item is here, and no other."])
+
+
+def test_a_table_of_places_can_be_left_out(page):
+    """Beside a catalogue that has none."""
+    drop(page, {"books.csv": books((UID_A, ""), head="uid,title"), "places.csv": PLACES_OF_A,
+                "A.log": field(UID_A)})
+    assert page.texts("#told button") == ["Leave out books.csv", "Leave out places.csv"]
+    pressed(page, "Leave out places.csv")
+    page.until(".banner.yes h1", "The one expected item is here, and no other.")
+
+
+@pytest.mark.parametrize("head", ["Ort", "Place name", "Shelf"])
+def test_one_log_beside_a_column_that_is_called_like_places(page, head):
+    """If it has several, one may be on another shelf than its own: that isn't green."""
+    for second, colour in ((",B", "read"), (",A", "yes")):
+        drop(page, {"books.csv": books((UID_A, ",A"), (UID_B, second), head=f"uid,title,{head}"),
+                    "A.log": field(UID_A, UID_B)})
+        assert look(page) == colour
+        assert (f"If column '{head}' says where" in page.said()) == (colour == "read")
+
+
+def test_a_log_that_is_called_nearly_like_a_place(page):
+    drop(page, {"books.csv": books((UID_A, ",A"), (UID_B, ",A")), "A.log": field(UID_A),
+                "A-2.log": field(UID_B)})
+    assert page.texts("h1") == ["1 item heard in a log of no place; A-2.log is of no place."]
+    assert ("If A-2.log is of A, call it A.log; if that is here too, write a table of places, with "
+            "a row for each.") in page.said()
 
 
 def test_a_shelf_without_a_log(page):
@@ -1103,6 +1131,8 @@ def test_a_log_of_half_a_day_before_is_not_green(page, late, answer):
     page.press(".doubts button", 1)
     page.until(".banner.yes h1", "All 2 expected items are here, and no others.")
     (said,) = page.texts(".note")
+    spoken = page.run("return document.getElementById('said').textContent")
+    assert spoken == f"{said} All 2 expected items are here, and no others."
     assert re.search("its file is of 1[78] Nov 2026", said)
     assert said.endswith("It was answered here: 'It is of this count'.")
 

@@ -126,12 +126,11 @@ function withoutAnswer({ logs }, shelves) {
  * @returns {Doubt[]}
  */
 function notAsked({ logs, columns, items, status }, { isAsked }) {
-  if (isAsked) return [];
   const { like, meant, noPlaces } = SENTENCES.catalogues, isLike = new RegExp(like, "i"), names = logs.map(({ name }) => stemOf(name));
-  const found = columns.map((head, at) => ({ head, like: isLike.exec(head.normalize("NFKC")), cells: new Set(items.map((it) => it.cells?.[at])) }));
+  const found = isAsked ? [] : columns.map((head, at) => ({ head, like: isLike.exec(head.normalize("NFKC")), cells: new Set(items.map((it) => it.cells?.[at])) }));
   const meaning = found.filter(({ like, cells }) => like || names.length && names.every((it) => cells.has(it)));
   const isNear = meaning.some(({ like, cells }) => like?.[1] || cells.size > 1), heads = meaning.map(({ head }) => `'${printable(head)}'`);
   // one field needs no places, if all is there, and no column is called almost so, or has several places
-  return logs.length < 2 && !(heads.length && (isNear || status)) ? []
+  return isAsked || logs.length < 2 && !(heads.length && (isNear || status)) ? []
     : [{ short: "where each belongs wasn't asked", words: noPlaces, cure: heads.length ? meant.replace("{}", listing(heads, "or")) : NO_PLACES }];
 }
