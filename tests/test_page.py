@@ -1058,7 +1058,7 @@ def test_the_next_catalogue_does_not_lose_the_places(page):
     page.until(".banner", "better.csv")
     assert page.texts("h1") == [MOVED.format("Kim")]
     page.drop(**{"others.csv": b"place,log\nA,2.log\nReturns,1.log\n"})
-    page.until("h1", OF_A_DEAF.format("A"))
+    page.until("h1", "if the readers of A and Returns heard to the end. But nothing answered in")
     assert "better.csv" in page.texts(".banner")[0] and "others.csv" in page.texts(".record")[0]
     page.drop(**{"places.csv": b"place,log\nA,1.log\nReturns,2.log\n"})
     page.until("h1", MOVED.format("Kim"))
