@@ -81,6 +81,10 @@ Worker.prototype.postMessage = function (it) {
 """}
 # The rows of tables of items: shelves, of which one alone stands at the head, and items.
 ROWS = ".items :is(thead tr + tr, tbody tr)"
+#: What is said of a reader that may have gone deaf.
+IF_HEARD = "The one listed tag is here, and no other, if the reader heard to the end."
+MOVED = "1 item in the wrong place ({}, on Returns, belongs to A); nothing answered in A."
+OF_A_DEAF = "The one expected item is here, and no other, if the reader of {} heard to the end."
 CHOSEN = """
 const it = document.getElementById("text");
 return it.value.slice(it.selectionStart, it.selectionEnd);
@@ -274,9 +278,9 @@ def test_a_keyboard_has_few_stops(page, file, part):
 
 
 def test_who_has_no_log_yet_is_told_what_one_is(page):
-    for words in ("A log says what a reader asked, and what came back each time",
-                  "The reader's software writes it", "isn't a log: it can't show whether a tag",
-                  "write uid as its first line, and open it with the logs."):
+    for words in ("that the reader's software wrote", "A log's first line begins with vicinity-log",
+                  "isn't a log: it can't show whether a tag was missed",
+                  "write uid as its first line, and open it as the catalogue."):
         assert words in page.said()
 
 
@@ -333,6 +337,18 @@ def test_in_the_colours_of_the_system_nothing_is_lost(page, scheme):
     assert pressed != other
 
 
+def test_the_first_screen_says_what_it_is_for(page):
+    """Also once all is closed: what this is, what to do, and what comes of it."""
+    for _ in range(2):
+        assert page.texts(".start h2") == ["What this is", "What to do", "What you get"]
+        assert len(page.texts(".answers li")) == 4
+        assert page.texts("#beside h2") == ["Or paste a log here"]
+        page.is_readable()
+        page.drop(**{"A.log": b""})
+        page.until("h1", "The file A.log is empty.")
+        page.press("#close")
+
+
 def test_print_is_a_record(page):
     """With all that is folded, what is taken for granted, a sum of the log, and a line to sign."""
     page.drop(log=log_of("I16 S RA RB S13 UA UB"))
@@ -342,7 +358,7 @@ def test_print_is_a_record(page):
     said = "\n".join(page.texts("body"))
     for words in "E0040100000000A1", "Each tag has power", "SHA-256 of the log", "Counted on":
         assert words in said
-    assert "Open logs" not in said and not page.driver.find_element("id", "text").is_displayed()
+    assert "Open files" not in said and not page.driver.find_element("id", "text").is_displayed()
 
 
 def test_each_sheet_names_the_file(page):
@@ -815,8 +831,8 @@ def saved(page, folder):
 
 
 @pytest.mark.parametrize(("two", "others", "look"), [
-    ("I1 RB", "; others may be, if stronger replies hid them.", "read"),
-    ("I1 RB QB I1 S", ", and no others answered.", "read"),
+    ("I1 RB", "; others may be in the field of two, if stronger replies hid them.", "read"),
+    ("I1 RB QB I1 S", ", and no others, if the reader of two heard to the end.", "read"),
     ("V3 I1 RB QB I1 S F MB RB", ", and no others.", "yes")])
 def test_a_collection_is_not_green_where_a_list_is_not(page, two, others, look):
     """In a field in which not all were asked once more, others may have been hidden; and where it
@@ -852,12 +868,13 @@ def test_items_without_a_place_are_not_called_in_place(page):
     books = b"uid,place\nE0040100000000A1,A\nE0040100000000B2,any\nE0040100000000B1,B\n"
     logs = {"A.log": log_of("I1 RA QA I1 S"), "B.log": log_of("I1 RB QB I1 S")}
     page.drop(**{"books.csv": books, **logs})
-    page.until("h1", "1 item missing.")
+    page.until("h1", "1 item missing (E0040100000000B1, of B).")
     assert page.texts(".lights dd")[:2] == ["2 of 2 logs", "2 of 3 items, 1 without a place"]
     page.drop(**{"books.csv": books.replace(b"any", b"B")})
     page.until(".lights dd", "2 of 3 items")
     page.drop(**{"books.csv": b"uid,place\nE0040100000000A1,A\nE0040100000000B2,B\n"})
-    page.until(".banner.read h1", "All 2 expected items are here, and no others answered.")
+    page.until(".banner.read h1", "All 2 expected items are here, and no others, if "
+               "the readers of A and B heard to the end.")
     assert page.texts(".lights dd")[:2] == ["2 of 2 logs", "2 of 2 items"]
 
 
@@ -882,7 +899,8 @@ def test_a_log_of_a_collection_is_compared_with_its_catalogue(page):
                "nothing answered in two.log.")
     page.run("for (const it of document.querySelectorAll('details')) it.open = true")
     page.wait(lambda: len(page.texts(".logs h3")) == 2)
-    assert page.texts(".logs h3") == ["1 tag is here, and no other answered.", "No tag answered."]
+    assert page.texts(".logs h3") == [
+        "1 tag is here, and no other, if the reader heard to the end.", "No tag answered."]
     assert page.texts(".logs dt") == [
         "Search finished", "If the reader went deaf",
         "Search finished", "Each tag was asked", "If replies were hidden",
@@ -899,7 +917,8 @@ def test_items_that_are_not_on_their_shelves(page):
     page.drop(**{"catalogue": b"uid,title,place\nE0040100000000A1,Walden,one\n"
                  b"E0040100000000B2,Emma,one\nE0040100000000C3,Kim,two\n",
                  "one.log": log_of("I1 RA QA I1 S"), "two.log": log_of("I1 RA I1 S")})
-    page.until("h1", "1 item not heard on its shelf and 1 not known yet; count two again.")
+    page.until("h1", "1 item not heard on its shelf (Emma, of one) and 1 not known yet; count two "
+               "again.")
     assert page.texts(".logs summary")[0] == (
         "two: nothing is known of its field, since its log contradicts itself (line 5)")
     assert "send it and this page to whoever maintains the reader." in page.said()
@@ -924,7 +943,7 @@ def test_rows_without_a_tag(page):
     """They are counted, but nothing is known of them. Without a title the UID names an item."""
     catalogue = b"uid,title\nE0040100000000A1,Walden\nnone,Emma\n"
     page.drop(**{"catalogue": catalogue, "one.log": log_of("I1 RB QB I1 S")})
-    page.until("h1", "1 item missing, 1 not in the catalogue and 1 without a tag.")
+    page.until("h1", "1 item missing (Walden), 1 not in the catalogue and 1 without a tag.")
     assert page.texts(".lights dd")[:2] == ["1 of 1 log", "0 of 2 items, 1 without a tag"]
     names = "return [...document.querySelectorAll('.items th[scope=row]')]"
     assert page.run(f"{names}.map((it) => [it.cellIndex, it.innerText])") == [
@@ -936,7 +955,7 @@ def test_an_item_of_a_catalogue_with_many_columns_is_read_in_lines(page):
     columns = [f"column {number}" for number in range(20)]
     page.drop(**{"books.csv": f"uid,title,{','.join(columns)},place\nE0040100000000A1,Emma,"
                  f"{','.join(['available'] * 20)},A\n".encode(), "A.log": log_of("I1 S")})
-    page.until("h1", "1 item missing; nothing answered in A.")
+    page.until("h1", "1 item missing (Emma · available, of A); nothing answered in A.")
     for kind, width in ("print", 780), ("", 1000):
         page.media(kind)
         size = {"width": width, "height": 900, "deviceScaleFactor": 1, "mobile": False}
@@ -968,7 +987,7 @@ def test_a_name_written_from_right_to_left_does_not_move_a_number(page):
     """One that follows it stood before it, away from what it counts."""
     page.drop(**{"books.csv": "uid,place\nE0040100000000A1,\u05de\u05d3\u05e3 1\n".encode(),
                  "\u05de\u05d3\u05e3 1.log": log_of("I1 RA QA I1 S")})
-    page.until("h1", "The one expected item is here, and no other answered.")
+    page.until("h1", OF_A_DEAF.format("\u05de\u05d3\u05e3 1"))
     page.press("details:has(.logs) > summary")
     assert page.texts(".logs summary") == ["\u05de\u05d3\u05e3 1: 1 tag"]
     name, number = page.run("""
@@ -1034,15 +1053,15 @@ def test_the_next_catalogue_does_not_lose_the_places(page):
     """Nor do other places lose the catalogue."""
     page.drop(**{"books.csv": OF_A, "places.csv": b"place,log\nA,1.log\nReturns,2.log\n",
                  "1.log": log_of("I1 S"), "2.log": log_of("I1 RA QA I1 S")})
-    page.until("h1", "1 item in the wrong place; nothing answered in A.")
+    page.until("h1", MOVED.format("Emma"))
     page.drop(**{"better.csv": OF_A.replace(b"Emma", b"Kim")})
     page.until(".banner", "better.csv")
-    assert page.texts("h1") == ["1 item in the wrong place; nothing answered in A."]
+    assert page.texts("h1") == [MOVED.format("Kim")]
     page.drop(**{"others.csv": b"place,log\nA,2.log\nReturns,1.log\n"})
-    page.until("h1", "The one expected item is here, and no other answered.")
+    page.until("h1", "if the readers of A and Returns heard to the end. But nothing answered in")
     assert "better.csv" in page.texts(".banner")[0] and "others.csv" in page.texts(".record")[0]
     page.drop(**{"places.csv": b"place,log\nA,1.log\nReturns,2.log\n"})
-    page.until("h1", "1 item in the wrong place; nothing answered in A.")
+    page.until("h1", MOVED.format("Kim"))
 
 
 # The file slow.log is read once `go` is called.
@@ -1061,7 +1080,7 @@ def test_a_table_waits_for_a_log_that_is_still_read(page):
     page.drop(**{"books.csv": OF_A.replace(b",A", b",slow")})
     page.wait(lambda: page.run("return 'go' in window"))
     page.run("window.go()")
-    page.until(".banner.read h1", "The one expected item is here, and no other answered.")
+    page.until(".banner.read h1", OF_A_DEAF.format("slow"))
 
 
 @pytest.mark.parametrize("is_example", [False, True])
@@ -1074,22 +1093,22 @@ def test_a_file_that_is_read_slowly_does_not_replace_a_later_one(page, is_exampl
         page.drop(later=UNFINISHED)
     page.wait(lambda: page.run("return 'go' in window"))
     page.run("window.go()")
-    page.until(".banner", "the example" if is_example else "later")
+    page.until("#told", "This is an example" if is_example else "later")
     page.wait(lambda: not page.run(SEEN, "#example"))
 
 
 def test_the_example_leaves_with_the_first_file(page):
     page.press("#example")
-    page.until("#told .banner", "the example")
+    page.until("#told .note", "This is an example: twelve books")
     assert page.run("return document.activeElement.tagName") == "H1"
     page.drop(**{"books.csv": OF_A})
     page.until("h1", "The catalogue has 1 item in 1 place. Now open the logs.")
     page.drop(**{"A.log": log_of("I1 RA QA I1 S")})
-    page.until("h1", "The one expected item is here, and no other answered.")
+    page.until("h1", OF_A_DEAF.format("A"))
     page.press("#example")
-    page.until(".banner", "the example")
-    assert page.texts(".note") == ["What was here (books.csv, 1 log) was closed."]
+    page.until(".note", "What was here (books.csv, 1 log) was closed. This is an example: twelve")
     assert "books.csv" not in page.said().partition("closed.")[2]
+    page.until(".banner", "1 item missing (Walden, of A)")
 
 
 @pytest.mark.parametrize("is_stopped", [False, True])
@@ -1226,7 +1245,7 @@ def test_no_sum_is_named_where_none_can_be_had(page, file):
     """As on a page that comes by http."""
     open_lacking(page, file, "Object.defineProperty(self, 'crypto', { value: {} });")
     page.drop(**{"books.csv": OF_A, "A.log": log_of("I1 RA QA I1 S")})
-    page.until(".banner.read h1", "The one expected item is here, and no other answered.")
+    page.until(".banner.read h1", OF_A_DEAF.format("A"))
     assert "SHA-256" not in page.texts(".record")[0]
     one_file = dict.fromkeys(["A.log", "B.log"], log_of("I1 RA QA I1 S"))
     page.drop(**{"books.csv": OF_A + b"none,Walden,B\n", **one_file})
@@ -1260,15 +1279,18 @@ def test_a_page_of_which_a_letter_has_changed_judges_nothing(page, file, tmp_pat
 
 def test_a_page_that_was_saved_is_read_without_its_script(page, tmp_path):
     page.drop(log=log_of("I1 RA QA I1 S UA"))
-    page.until("h1", "The one listed tag is here, and no other answered.")
+    page.until("h1", IF_HEARD)
     file = saved(page, tmp_path / "saved")
     page.open(file)
-    assert (page.texts("h1"), page.texts("#old")) == (
-        ["The one listed tag is here, and no other answered."], [])
+    assert (page.texts("h1"), page.texts("#old")) == ([IF_HEARD], [])
+    (top,), (record,) = page.texts(".name"), page.texts(".record")
+    assert re.fullmatch(r"vicinity \d+\.\d+\.\d+ · log · saved on \d+ \w+ \d{4}, \d\d:\d\d", top)
+    assert "SHA-256 of the log" in record
+    page.is_readable()
     file.write_text(file.read_text().replace('<script type="module">', '<script type="module">;'))
     page.open(file)
     page.wait(page.driver.find_element("id", "old").is_displayed)
-    assert "The one listed tag is here, and no other answered." in page.texts("#old")[0]
+    assert IF_HEARD in page.texts("#old")[0]
     assert "Content Security Policy" in page.browser.console()[0]
 
 
@@ -1298,7 +1320,7 @@ def test_a_page_that_a_browser_has_saved(page, tmp_path):
     page.until("#status", "This is what a browser has saved of the page: its answers, without the")
     page.press("#logs button", 1)
     assert "two No tag answered, but 1 is listed." in page.texts("#logs")[0]
-    assert page.texts("h1") == ["The one listed tag is here, and no other answered."]
+    assert page.texts("h1") == [IF_HEARD]
     assert not any(page.driver.find_element("id", it).is_displayed() for it in ("text", "save"))
     page.drop(two=log_of("I1 S UA"))
     page.until("h1", "No tag answered, but 1 is listed")

@@ -18,6 +18,7 @@ from helpers.screen import Screen
 
 SEED, NUMBER, PARTS = 15693, 100, 2
 # What may be wrong, by the light that says it.
+UNSETTLED = "Found, if all logs count"
 READINGS = {"If replies were hidden": "hidden", "If the reader went deaf": "deaf"}
 DROP = """
 const data = new DataTransfer();
@@ -87,6 +88,7 @@ def books(*rows, head="uid,title,place"):
 
 
 BOTH = books((UID_A, ",A"), (UID_B, ",B"))
+PLACES_OF_A = b"place,log\nA,A.log\n"
 COMPLETE = {"books.csv": BOTH, "A.log": field(UID_A), "B.log": field(UID_B)}
 
 
@@ -180,16 +182,16 @@ def compare(page, told):
                         for log in told["logs"])
         wanted = ("still complete" if holds else "others may be here") if is_complete else (
             "the answer may be wrong" if is_missing and not holds else None)
-        assert lights.get(light) == (None if "In some log" in lights and holds else wanted), told
+        assert lights.get(light) == (None if UNSETTLED in lights and holds else wanted), told
     assert not is_complete or "and no others." not in headline or (
         lights["If the reader went deaf"] == "still complete")
-    place = next(it for it in ("In some log", "In place", "Here") if it in lights)
-    number = (sum(bool(it["certain_in"]) for it in told["items"]) if place == "In some log" else
+    place = next(it for it in (UNSETTLED, "In place", "Here") if it in lights)
+    number = (sum(bool(it["certain_in"]) for it in told["items"]) if place == UNSETTLED else
               sum(told["counts"][state] for state in ("in place", "there")))
     assert lights[place].startswith(f"{number} of {len(told['items'])} item")
     done = sum(log["field"] == "possible" and not log["open"] and not log["hidden"]
                for log in told["logs"])
-    assert lights["Search finished"].startswith(f"{done} of {len(told['logs'])} log")
+    assert lights["Counted to the end"].startswith(f"{done} of {len(told['logs'])} log")
     return {"complete" if is_complete else "not complete", "green" if look(page) == "yes" else "",
             "without a log" if told["without_log"] else "",
             "left over" if any(log["left_over"] for log in told["logs"]) else ""}
@@ -215,14 +217,15 @@ def test_where_a_reader_may_have_gone_deaf_nothing_is_green(page):
     """As of a list: it says so, and what shows whether the reader heard."""
     drop(page, {**COMPLETE, "B.log": field(UID_B, is_heard=False)})
     assert (look(page), page.texts(".lights dd")[-1]) == ("read", "others may be here")
-    assert page.texts("#told h1") == ["All 2 expected items are here, and no others answered."]
+    assert page.texts("#told h1") == [
+        "All 2 expected items are here, and no others, if the reader of B heard to the end."]
     assert "deaf after the last answer of a tag, the answer may be wrong in the field of B" in (
         page.texts(".holds p")[-1])
 
 
 # What keeps a collection that is complete from being green, and how it is said.
 NOT_SURE = {
-    "others may be hidden": ("B.log", log_of("I1 RB"), "others may be, if stronger replies hid"),
+    "others may be hidden": ("B.log", log_of("I1 RB"), "if stronger replies hid"),
     "places aren't asked for": ("books.csv", books((UID_A, ""), (UID_B, ""), head="uid,title"),
                                 "But where each belongs wasn't asked."),
     "two prove the same": ("A.log", field(UID_A, UID_B),
@@ -259,7 +262,7 @@ def test_a_log_of_a_collection_says_how_sure_it_is(page):
     drop(page, {**COMPLETE, "B.log": field(UID_B, is_heard=False)})
     page.press("details:has(.logs) > summary")
     page.press(".logs summary", 1)
-    page.until(".logs h3", "1 tag is here, and no other answered.")
+    page.until(".logs h3", "1 tag is here, and no other, if the reader heard to the end.")
     assert page.texts(".logs dt") == ["Search finished", "If the reader went deaf"]
     assert page.texts(".logs dd") == ["yes", "others may be here"]
     page.until(".logs .holds p", "If the reader had gone deaf after the last answer of a tag,")
@@ -295,7 +298,9 @@ def test_a_catalogue_that_may_have_been_cut_off(page):
 
 def test_where_others_may_be_hidden_something_is_left_to_ask(page):
     drop(page, {**COMPLETE, "B.log": log_of("I1 RB")})
-    assert page.texts(".steps li")[0] == "Spread out items that lie on each other, and count again."
+    assert page.texts(".steps li")[0] == (
+        "Spread out items that lie on each other in the field of B, and count again.")
+    assert page.texts(".steps li")[1].startswith("If it stays so, send the log of B and this page")
     assert page.texts(".lights dd")[0] == "1 of 2 logs"
     assert page.texts("#told > details > summary")[:3] == [
         "Ask all once more (1 log)", "Here (2 items)", "Searched to the end (1 log)"]
@@ -315,9 +320,9 @@ def test_a_column_of_nearly_that_name_asks_for_no_places(page):
 
 
 @pytest.mark.parametrize(("head", "rows", "meant"), [
-    ("uid,title,Shelf", (",A", ",B"), "'Shelf'"), ("uid,title,Regal", (",A", ",B"), "'Regal'"),
+    ("uid,title,Shelf", (",A", ",B"), "'Shelf'"), ("uid,title,Hylly", (",A", ",B"), "'Hylly'"),
     ("uid,title,Room,Shelf mark", (",1,a", ",1,b"), "'Room' or 'Shelf mark'"),
-    ("uid,title,Regal", (",A", ",A"), None), ("uid,title,author", (",x", ",y"), None)])
+    ("uid,title,Hylly", (",A", ",A"), None), ("uid,title,author", (",x", ",y"), None)])
 def test_a_column_that_may_say_where_items_belong_is_named(page, head, rows, meant):
     """It is called so, or it has the names of all logs. Whether it is that of places isn't
     guessed."""
@@ -331,15 +336,15 @@ def test_a_column_that_may_say_where_items_belong_is_named(page, head, rows, mea
 
 
 def test_a_catalogue_that_waits_names_the_column_of_shelves(page):
-    """So does one beside the log of one field, unless all is there."""
+    """So does one beside the log of one field."""
     shelves = books((UID_A, ",A"), (UID_B, ",B"), head="uid,title,Shelf")
     drop(page, {"books.csv": shelves})
     assert "If column 'Shelf' says" in page.texts(".doubts")[0]
     drop(page, {"A.log": field(UID_A)})
-    assert page.texts("h1") == ["1 item missing."]
+    assert page.texts("h1") == ["1 item missing (Walden · B)."]
     assert "If column 'Shelf' says" in page.texts(".doubts")[0]
     drop(page, {"A.log": field(UID_A, UID_B, asks=2)})
-    assert look(page) == "yes" and not page.texts(".doubts")
+    assert look(page) == "read" and "If column 'Shelf' says" in page.texts(".doubts")[0]
     drop(page, {"books.csv": BOTH})
     assert "rename" not in page.said()
 
@@ -406,11 +411,38 @@ def test_one_log_needs_no_places(page):
         "yes", ["The one expected item is here, and no other."])
 
 
+def test_a_table_of_places_can_be_left_out(page):
+    """Beside a catalogue that has none."""
+    drop(page, {"books.csv": books((UID_A, ""), head="uid,title"), "places.csv": PLACES_OF_A,
+                "A.log": field(UID_A)})
+    assert page.texts("#told button") == ["Leave out books.csv", "Leave out places.csv"]
+    pressed(page, "Leave out places.csv")
+    page.until(".banner.yes h1", "The one expected item is here, and no other.")
+
+
+@pytest.mark.parametrize("head", ["Ort", "Place name", "Shelf"])
+def test_one_log_beside_a_column_that_is_called_like_places(page, head):
+    """If it has several, one may be on another shelf than its own: that isn't green."""
+    for second, colour in ((",B", "read"), (",A", "yes")):
+        drop(page, {"books.csv": books((UID_A, ",A"), (UID_B, second), head=f"uid,title,{head}"),
+                    "A.log": field(UID_A, UID_B)})
+        assert look(page) == colour
+        assert (f"If column '{head}' says where" in page.said()) == (colour == "read")
+
+
+def test_a_log_that_is_called_nearly_like_a_place(page):
+    drop(page, {"books.csv": books((UID_A, ",A"), (UID_B, ",A")), "A.log": field(UID_A),
+                "A-2.log": field(UID_B)})
+    assert page.texts("h1") == ["1 item heard in a log of no place; A-2.log is of no place."]
+    assert ("If A-2.log is of A, call it A.log; if that is here too, write a table of places, with "
+            "a row for each.") in page.said()
+
+
 def test_a_shelf_without_a_log(page):
     drop(page, {"books.csv": BOTH, "A.log": field(UID_A)})
     assert page.texts("#told h1") == ["1 item not counted; no log of B."]
     assert page.texts(".doubts b") == ["No log of B: 1 item that belongs there isn't counted."]
-    assert page.texts(".lights dd") == ["1 of 1 log, no log of 1 place", "1 of 2 items"]
+    assert page.texts(".lights dd") == ["1 of 1 log; 1 place has none", "1 of 2 items"]
     page.is_readable()
 
 
@@ -440,7 +472,8 @@ def test_an_item_that_only_a_log_of_no_place_proves(page):
     assert page.texts(".items :is(thead tr + tr, tbody tr)") == [
         "cart.log", "Emma\nA\nE0040100000000A1"]
     drop(page, {"B.log": field(UID_A, UID_B)})
-    assert page.texts("#told h1")[0].startswith("1 item in the wrong place; no log of A,")
+    assert page.texts("#told h1")[0].startswith(
+        "1 item in the wrong place (Emma, on B, belongs to A); no log of A,")
     assert page.texts(".items :is(thead tr + tr, tbody tr)") == [
         "Shelf B", "take to A; also in cart.log\nEmma\nE0040100000000A1"]
 
@@ -573,8 +606,8 @@ def test_items_by_their_states(page):
     drop(page, {"books.csv": table, "A.log": field(UID_A),
                 "B.log": field(UID_B, UID_C, 0xE0 << 56)})
     assert page.texts("#told h1") == [
-        "1 item missing, 1 in the wrong place, 1 not in the catalogue, 1 back that should be away "
-        "and 1 without a tag."]
+        "1 item missing (Persuasion, of A), 1 in the wrong place (Walden, on B, belongs to A), 1 "
+        "not in the catalogue, 1 back that should be away and 1 without a tag."]
     assert page.texts(".items :is(thead tr + tr, tbody tr)")[:6] == [
         "Shelf A", "missing: look for it\nPersuasion\nE0040100000000E5",
         "Shelf B", "take to A\nWalden\nE0040100000000B2",
@@ -587,7 +620,8 @@ def test_the_example(page):
     files = {it.name: it.read_bytes() for it in sorted((TOP / "examples/collection").iterdir())}
     drop(page, files)
     assert page.texts("#told h1") == [
-        "1 item missing, 1 in the wrong place and 1 not known yet; count C again."]
+        "1 item missing (Walden, of A), 1 in the wrong place (The Time Machine, on A, belongs to "
+        "B) and 1 not known yet; count C again."]
     assert page.texts(".logs summary")[0] == (
         "C (shelf-c.log): 3 tags; left to ask: UIDs ending in E or F")
     # replies may be hidden only in the log that is to be counted again
@@ -613,7 +647,7 @@ def test_a_log_is_judged_by_itself_when_it_is_opened(page):
     page.until(".logs h3", "1 tag is here, and no other.")
     page.wait(lambda: sorted(page.run("return window.asked")) == ["", "A.log", "B.log"])
     drawn = page.run("return document.querySelector('.logs').textContent")
-    assert "Emma · A E0040100000000A1" in drawn
+    assert "Emma E0040100000000A1" in drawn
 
 
 def test_logs_that_come_one_after_the_other_stay(page):
@@ -652,13 +686,13 @@ def test_a_log_joins_a_collection_or_replaces_that_of_its_place(page):
     drop(page, {"books.csv": BOTH, "A.log": field(UID_A)})
     drop(page, {"B.log": field()})
     assert page.texts(".note") == ["B.log joined the logs that were here."]
-    assert page.texts("#told h1") == ["1 item missing; nothing answered in B."]
+    assert page.texts("#told h1") == ["1 item missing (Walden, of B); nothing answered in B."]
     assert page.run(TOLD) == f"{page.texts('.note')[0]} {page.texts('#told h1')[0]}"
     drop(page, {"B.txt": field(UID_B)})
     assert page.texts(".note") == ["B.log was replaced by what you opened under the same name."]
     assert look(page) == "yes"
     page.press("#back")
-    page.until("h1", "1 item missing; nothing answered in B.")
+    page.until("h1", "1 item missing (Walden, of B); nothing answered in B.")
     assert page.run(FOCUS) == page.texts("h1")[0]
     page.press("#back")
     page.until("h1", "1 item not counted; no log of B.")
@@ -696,7 +730,7 @@ def test_a_collection_of_older_files_is_asked_about(page):
 
 
 @pytest.mark.parametrize(("press", "headline"), [
-    (1, "1 item missing; nothing answered in A."),
+    (1, "1 item missing (Emma, of A); nothing answered in A."),
     (0, "All 2 expected items are here, and no others.")])
 def test_it_is_asked_which_of_two_counts(page, press, headline):
     """Until that is said, both are here, and nothing is green. Then the one that counts is of the
@@ -1092,13 +1126,15 @@ def test_a_log_of_half_a_day_before_is_not_green(page, late, answer):
     page.media("print")
     page.run(PRINTS)
     # no result is signed while a question is open; each log has the date of its file
-    assert "This sheet is no result: a question above is open." in page.said()
+    assert page.said().startswith("This is no result yet: answer what is asked below")
     assert "Counted on" not in page.said()
     assert re.search("of 1[78] Nov 2026", "\n".join(page.texts(".sum")))
     page.media()
     page.press(".doubts button", 1)
     page.until(".banner.yes h1", "All 2 expected items are here, and no others.")
     (said,) = page.texts(".note")
+    spoken = page.run("return document.getElementById('said').textContent")
+    assert spoken == f"{said} All 2 expected items are here, and no others."
     assert re.search("its file is of 1[78] Nov 2026", said)
     assert said.endswith("It was answered here: 'It is of this count'.")
 
@@ -1242,7 +1278,7 @@ def test_who_opens_the_newer_file_once_more_takes_the_answer_back(page):
         pressed(page, "The older one counts")
         until_green(page)
         drop(page, {"B.log": field(*[UID_B][number:])}, {"B.log": NOON})
-    page.until("h1", "1 item missing; nothing answered in B.")
+    page.until("h1", "1 item missing (Walden, of B); nothing answered in B.")
 
 
 @pytest.mark.parametrize("is_at_once", [True, False])
@@ -1359,7 +1395,8 @@ def test_an_older_log_by_itself_is_asked_about(page, tmp_path):
     assert "Nothing to do" not in page.said()
     page.media("print")
     page.run(PRINTS)
-    assert "This sheet is no result: a question above is open." in page.said()
+    assert page.texts(".asked") == [
+        "This is no result yet: answer what is asked below, in vicinity.html, with the files."]
     assert "Counted on" not in page.said()
     page.media()
     made = saved(page, tmp_path / "asked")
@@ -1414,7 +1451,7 @@ def test_a_copy_of_a_log_that_is_not_here(page):
     assert look(page) == "no"
     assert page.texts("h1") == ["1 item heard in a log of no place; no log of B, unless B (1).log "
                                 "is it."]
-    assert page.texts(".lights dt")[1] == "In some log"
+    assert page.texts(".lights dt")[1] == UNSETTLED
     assert page.texts(".lights dd")[1] == "2 of 2 items"
     assert page.texts(".doubts button") == ["Count it as B", "Leave out B (1).log"]
     page.press(".doubts button")
@@ -1669,7 +1706,7 @@ def test_one_button_for_many_logs_makes_nothing_green_that_is_doubtful(page, dou
     page.until(".note", "6 logs count by other names than their own")
     assert look(page) in ("read", "no")
     words = {"a day older": "the log of S3 is more than 12 hours older",
-             "hidden": "others may be, if stronger replies hid them",
+             "hidden": "if stronger replies hid them",
              "of a new name": "other.log is of no place"}[doubt]
     assert words in page.texts("h1")[0]
 
@@ -1729,7 +1766,8 @@ def test_no_log_of_another_shelf_is_left_out(page):
 def test_where_all_are_here_and_a_log_is_not_finished(page):
     drop(page, {**COMPLETE, "B.log": log_of("I16 S2 RB S9")})
     page.until("h1", "All 2 expected items are here; count B again, as others may be there.")
-    assert look(page) == "no" and page.texts(".lights dt") == ["Search finished", "In place"]
+    assert look(page) == "no" and page.texts(".lights dt") == [
+        "Counted to the end", "In place"]
 
 
 def test_an_item_without_a_tag_is_looked_for(page):
@@ -1833,7 +1871,8 @@ def test_a_log_is_saved_though_another_is_opened(page, tmp_path):
     opens = ("const data = new DataTransfer(); data.items.add(new File(['x'], 'B.log')); document"
              ".dispatchEvent(new DragEvent('drop', { dataTransfer: data, bubbles: true }));")
     made = saved(page, tmp_path / "saved", opens)
-    assert made.name == "A.log.html" and drawn_in(made.read_text())[0]["certain"]["count"] == 1
+    assert re.fullmatch(r"A \d{4}-\d\d-\d\d \d{4}\.html", made.name)
+    assert drawn_in(made.read_text())[0]["certain"]["count"] == 1
 
 
 def test_a_list_of_logs_is_saved_once(page, tmp_path):

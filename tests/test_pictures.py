@@ -369,7 +369,8 @@ def reconciled(run, browser, tmp_path):
 def test_page_of_a_collection(reconciled):
     page = reconciled(*SHELVES)
     assert page.texts("h1") == [
-        "1 item missing, 1 in the wrong place and 1 not known yet; count C again."]
+        "1 item missing (Walden, of A), 1 in the wrong place (The Time Machine, on A, belongs to "
+        "B) and 1 not known yet; count C again."]
     assert page.texts(".lights dd") == ["2 of 3 logs", "9 of 12 items", "the answer may be wrong"]
     groups = ["Count again (1 log)", "At the shelves (2)", "Not known yet (1)",
               "Here (9 items)", "Searched to the end (2 logs)", "What this takes for granted (10)"]
@@ -400,7 +401,8 @@ def test_page_of_a_collection_that_is_not_sure_enough(run, browser, tmp_path):
     missed = "a tag would have had to be missed in 2 slots"
     page = Screen(browser)
     for most, status, headline in (
-            ("2", 0, "All 4 expected items are here, and no others answered."),
+            ("2", 0, "All 4 expected items are here, and no others, if the reader of shelf-a.log "
+             "heard to the end."),
             ("3", 1, f"Not sure enough: {missed}, and 3 or more were asked for.")):
         done = run(*words, "--margin", most)
         (tmp_path / "page.html").write_bytes(done.stdout)

@@ -31,6 +31,7 @@ const CONTROL = /[\0-\x1F\x7F]/g, NO_TEXTS = "Leave out what doesn't belong here
 const MOST_SAID_EACH = 4, NO_CATALOGUE = "Now open the catalogue: a table (CSV) with a column uid.";
 /** What is pasted has no name by which it could be of a place. The example leaves with the first file that is opened, and joins none. */
 export const PASTED = "pasted text", EXAMPLE = "the example";
+const IS_EXAMPLE = "This is an example: twelve books that belong on three shelves, A, B and C, and the log of each shelf.";
 
 /** @param {Entry} entry */
 export const isUnanswered = ({ told, collection, error, waits }) => !told && !collection && !error && !waits;
@@ -115,7 +116,7 @@ const closedWith = (left) => left.map((it) => ({ ...it, how: "", keys: it.keys.f
  * @returns {Entry[]}
  */
 export function gathered(taken, all) {
-  const entries = all.filter(({ made }) => made !== EXAMPLE), past = (all[0]?.given ?? all[0])?.left ?? [];
+  const entries = all.filter((it) => (it.given?.tables[0] ?? it).made !== EXAMPLE), past = (all[0]?.given ?? all[0])?.left ?? [];
   const [first] = entries, earlier = first?.given, before = entries.flatMap((it) => it.given?.logs ?? it);
   const known = taken.filter((it) => !earlier || !strangeness(it)), isWhole = known.some(isCatalogue) && !known.every(isATable);
   // one of a log's name is a new count of it, which wasn't read: the old one doesn't count beside it
@@ -138,8 +139,8 @@ export function gathered(taken, all) {
   const others = isJoining && !earlier ? entries : [], [unnamed, strange] = [others.filter(({ made }) => made), others.filter(isStrange)];
   const more = [...left, ...leftAs(unnamed, "left out: what is pasted has no name"), ...leftAs(strange, `left out: ${NO_LOG}`)];
   const kept = others.filter((it) => !unnamed.includes(it) && !strange.includes(it)), both = others.flatMap((it) => it.both ?? []);
-  const here = isJoining && earlier || { tables: [], both, logs: kept };
-  return [joined({ ...here, left: [...over, ...more] }, tables, logs, [note, ...wasEach(more)].join(" "), first)];
+  const here = isJoining && earlier || { tables: [], both, logs: kept }, is = taken[0].made === EXAMPLE ? [IS_EXAMPLE] : [];
+  return [joined({ ...here, left: [...over, ...more] }, tables, logs, [note, ...wasEach(more), ...is].join(" "), first)];
 }
 
 /**

@@ -2,7 +2,7 @@
 import { at } from "./draw/elements.mjs";
 import { Pane } from "./draw/pane.mjs";
 import { unfold, unfoldOnPaper } from "./draw/printing.mjs";
-import { isSpreadsheet, kindOf, startOf } from "./judge/files.mjs";
+import { isSpreadsheet, kindOf, startOf, stemOf } from "./judge/files.mjs";
 import { answered, counted, EXAMPLE, gathered, isUnanswered, PASTED, read, withFile, withFiles, without } from "./opened.mjs";
 import { bytesOf, unpacked } from "./packed.mjs";
 import { pageOf, save, withObjects } from "./saving.mjs";
@@ -14,7 +14,7 @@ import { STOPPED, Work } from "./work.mjs";
 /** @typedef {import("./opened.mjs").Entry} Entry */
 
 /** How long a judging goes on before it can be stopped, in ms. */
-const PATIENCE = 400, PASTE = "Paste a log here", NO_DROP = "No file was dropped, so nothing has changed. Save the text as a file, and open that.";
+const PATIENCE = 400, PASTE = "Or paste a log here", NO_DROP = "No file was dropped, so nothing has changed. Save the text as a file, and open that.";
 const NOT_SAVED = "Nothing was saved: there isn't enough memory for it. Close other tabs and programs.";
 const SAVED_COPY = "This is what a browser has saved of the page: its answers, without the logs. To go on, open these again.";
 
@@ -36,8 +36,8 @@ const now = { entries: /** @type {Entry[]} */ ([]), current: 0, past: /** @type 
  * The worker's script, and compressed and in base64 the library as WebAssembly and the page that is saved. They stand within this script,
  * which the browser runs only if its hash is right: a page of which a bit was turned over judges nothing.
  */
-const WORKER = "{{worker}}", MODULE = "{{module}}", RECORD = "{{record}}", SAMPLE = at("sample").textContent ?? "";
-const work = new Work(WORKER, bytesOf(MODULE), new TextEncoder().encode(SAMPLE));
+const WORKER = "{{worker}}", MODULE = "{{module}}", RECORD = "{{record}}", SAMPLE = JSON.parse(at("sample").textContent ?? "");
+const work = new Work(WORKER, bytesOf(MODULE), new TextEncoder().encode(SAMPLE["shelf-a.log"]));
 
 // What is judged
 
@@ -195,7 +195,8 @@ saves.addEventListener("click", async () => {
   const log = now.entries[now.current], { collection } = log, fold = unfold(), text = shown.innerText, { title } = document;
   fold();
   const object = collection ? await withObjects(collection, openerOf(log)) : await whole(log).then((told) => told && withFile(told.object, log));
-  if (object) save(pageOf(new TextDecoder().decode(await unpacked(bytesOf(RECORD))), object, title, text), `${log.name}.html`);
+  const saved = Date.now(), on = new Date(saved).toLocaleString("sv", { dateStyle: "short", timeStyle: "short" }).replace(":", "");
+  if (object) save(pageOf(new TextDecoder().decode(await unpacked(bytesOf(RECORD))), { ...object, saved }, title, text), `${stemOf(log.name)} ${on}.html`);
   else status.textContent = NOT_SAVED;
 });
 
@@ -206,7 +207,7 @@ files.addEventListener("change", () => {
   // so that the same file, changed meanwhile, can be chosen again
   files.value = "";
 });
-at("example").addEventListener("click", () => open([new File([SAMPLE], EXAMPLE)], EXAMPLE));
+at("example").addEventListener("click", () => open(Object.entries(SAMPLE).map(([name, text]) => new File([text], name)), EXAMPLE));
 /**
  * Whether a text gets into the field, which takes one where no log is shown.
  * @param {Event} event

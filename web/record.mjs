@@ -6,7 +6,7 @@ import { unfoldOnPaper } from "./draw/printing.mjs";
 import { view } from "./draw/view.mjs";
 import { isSpreadsheet } from "./judge/files.mjs";
 import { tell } from "./judge/told.mjs";
-import { titled } from "./say/words.mjs";
+import { dated, printable, titled } from "./say/words.mjs";
 
 const object = JSON.parse(at("object").textContent ?? ""), shown = at("told");
 if ("items" in object) {
@@ -19,6 +19,7 @@ if ("items" in object) {
   new Pane(/** @type {HTMLTextAreaElement} */ (at("text")), shown).put(new TextEncoder().encode(object.text));
   at("beside").hidden = isSpreadsheet(object.text);
 }
+at("made").textContent = [object.version, printable(object.file), ...object.saved ? [`saved on ${dated(object.saved)}`] : []].join(" · ");
 document.title = titled(object.file, shown.querySelector("h1")?.textContent ?? "");
 unfoldOnPaper();
 // not in what a browser has saved of it

@@ -21,6 +21,9 @@ export const shown = at("told");
 /** What stands there before anything is opened. */
 const START = document.body.classList.contains("empty") ? [...shown.childNodes] : [], TITLE = document.title;
 
+/** What was noted of that which was shown last. */
+let noted = /** @type {string[]} */ ([]);
+
 /** What heads that which is shown. */
 const heading = () => /** @type {HTMLElement | null} */ (document.querySelector("#each h1, #told h1"));
 
@@ -33,17 +36,17 @@ const heading = () => /** @type {HTMLElement | null} */ (document.querySelector(
 export function show(entry, opener, canLeave) {
   shown.setAttribute("aria-busy", String(entry !== undefined && isUnanswered(entry)));
   if (!entry) return;
-  const { note = "", collection, name } = entry;
+  const { collection, name } = entry;
   shown.replaceChildren(...nodesOf(entry, opener, canLeave));
-  const words = heading()?.textContent ?? "";
-  headed(words ? titled(collection?.file ?? name, words) : printable(`${name} ..`), note && `${printable(note)} `);
+  const words = heading()?.textContent;
+  headed(words ? titled(collection?.file ?? name, words) : printable(`${name} ..`), !isUnanswered(entry));
 }
 
 /** Shows what stands there before anything is opened. */
 export function begin() {
   each.replaceChildren();
   shown.replaceChildren(...START);
-  headed(TITLE);
+  headed(TITLE, true);
 }
 
 /** Leads the keyboard to what has changed, and whoever doesn't see it. */
@@ -66,11 +69,10 @@ function nodesOf(entry, opener, canLeave) {
   const said = [...words.length ? [el("h2", {}, "What to do"), el("ul", { class: "steps" }, words.map((it) => el("li", {}, it)))] : [],
     ...given && files ? leavingOut(given, files) : []];
   // what stands below isn't said twice
-  const more = (collection?.left ?? []).reduce((words, it) => words.replace(it, ""), note).trim();
-  const noted = notes(more ? [printable(more)] : []);
-  if (error) return [...noted, banner({ look: "refused", sign: "?", headline: unanswered(name, error), lights: [] }, printable(name)), ...said];
-  if (waits) return [...noted, el("h1", {}, waits), ...said];
-  return collection ? [...noted, ...collectionView(collection, opener, canLeave)] : told ? [...noted, ...view(told, undefined, true, true)] : [];
+  const more = (collection?.left ?? []).reduce((words, it) => words.replace(it, ""), note).trim(), above = notes(more ? [printable(more)] : []);
+  if (error) return [...above, banner({ look: "refused", sign: "?", headline: unanswered(name, error), lights: [] }, printable(name)), ...said];
+  if (waits) return [...above, el("h1", {}, waits), ...said];
+  return collection ? [...above, ...collectionView(collection, opener, canLeave)] : told ? [...above, ...view(told, undefined, true, true)] : [];
 }
 
 /**
@@ -112,7 +114,7 @@ export function overview(entries, current) {
   const version = tolds.length ? `, by vicinity ${tolds[0].told.object.version}` : "";
   const all = [words, ...entries.flatMap(({ said }) => said?.answered ?? [])];
   shown.replaceChildren(el("footer", { class: "record" }, ...sums, ...signed(all, `${count(many, "file")}${version}`)));
-  headed(words);
+  headed(words, !entries.some(isUnanswered));
 }
 
 /**
@@ -144,12 +146,14 @@ const kept = (logs) => logs.some(isLacking) ? [OPEN_AGAIN] : logs.length
   ? [`${count(logs.length, "log is", "logs are")} still here, to be compared with the next catalogue that you open.`] : [];
 
 /**
- * Says what is shown, in the title and to whoever doesn't see it: nothing of what is pale.
+ * Says what is shown, in the title and to whoever doesn't see it: nothing of what is pale, and what is noted once.
  * @param {string} title
- * @param {string} [note] what became of what was here
+ * @param {boolean} isAnswered
  */
-function headed(title, note = "") {
-  const said = at("said"), words = note + (heading()?.textContent ?? "");
+function headed(title, isAnswered) {
+  const said = at("said"), notes = [...document.querySelectorAll(".note")].map((it) => it.textContent ?? "");
+  const words = [...notes.filter((it) => !noted.includes(it)), heading()?.textContent ?? ""].join(" ");
+  if (isAnswered) noted = notes;
   document.title = title;
   if (said.textContent !== words) said.textContent = words;
 }

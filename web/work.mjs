@@ -33,9 +33,8 @@ export class Work {
     try {
       const worker = new Worker(this.code);
       worker.onmessage = ({ data: { id, ...done } }) => {
-        const answer = this.#waiting.get(id);
+        this.#waiting.get(id)?.(done);
         this.#waiting.delete(id);
-        answer?.(done);
       };
       worker.onerror = () => this.stop(SENTENCES.failures.none);
       worker.postMessage(this.sent);
@@ -52,9 +51,7 @@ export class Work {
   ask(what) {
     const id = ++this.#requested, asked = new Promise((answer) => { this.#waiting.set(id, answer); });
     if (!this.#worker) this.#begin();
-    try {
-      /** @type {Worker} */ (this.#worker).postMessage({ id, ...what });
-    } catch { this.stop(SENTENCES.failures.none); }
+    try { /** @type {Worker} */ (this.#worker).postMessage({ id, ...what }); } catch { this.stop(SENTENCES.failures.none); }
     return asked;
   }
 

@@ -43,7 +43,8 @@ class Log:
             r"others are too|others may be too": lambda: self.is_open,
             rf"all {NUMBER} listed tags are here": lambda n: n == self.listed == proved,
             r"the one listed tag is here": lambda: self.listed == proved == 1,
-            r"and no others? answered": lambda: (self.is_complete or not self.listed) and not (
+            r"and no others?, if the reader heard to the end": lambda: (
+                self.is_complete or not self.listed) and not (
                 self.is_open or self.is_hiding or found["absent"]),
             r"and no others?": lambda: (self.is_complete or not self.listed) and not (
                 self.is_open or self.is_hiding or self.is_deaf or found["absent"]),
@@ -118,6 +119,44 @@ ALL_HERE = re.compile(rf"^All {NUMBER} expected items are (?:here|in some log)"
                       r"|\bTogether the logs have the one expected item\.")
 
 
+DEAF = re.compile(r"no others?, if the readers? of (.+) heard to the end\.")
+WHERE = re.compile(rf"others may be in the fields? of (.+), {HIDDEN}")
+# Of one item a headline says which it is, of these, in so many cells and characters at most.
+NAMED, CELLS, CHARACTERS = ("missing", "may be", "in the wrong", "not heard"), 2, 60
+MORE = re.compile(r"[0-9,]+ more")
+
+
+def place_of(log):
+    """What a log is called: as its place, or as its file."""
+    return re.split(r"[/\\]", log["name"])[-1] if log["place"] is None else log["place"]
+
+
+def names_those(headline, words, told, reading):
+    """Whether the logs that a headline names are those that may be wrong in a reading, of which it
+    names the first if they are many."""
+    found = words.search(headline)
+    names = {place_of(log) for log in told["logs"]
+             if log[reading] and log["field"] == "possible" and not log["open"]}
+    said = re.split(r", | and ", found[1]) if found else []
+    shown = {it for it in said if not MORE.fullmatch(it)}
+    return shown <= names and (len(shown) == len(said) and shown == names or len(shown) == 3)
+
+
+def named(told, state):
+    """What a headline may call each item of a state."""
+    for item in told["items"]:
+        if item["state"] != state:
+            continue
+        cells = [cell.strip(" \t") for head, cell in zip(told["columns"], item.get("cells", []))
+                 if head.strip(" \t").lower() not in ("uid", "away", "place")]
+        name = " · ".join([it for it in cells if it][:CELLS]) or item["uid"]
+        name = name if len(name) <= CHARACTERS else f"{name[:CHARACTERS]}…"
+        if state != "misplaced":
+            yield f"{name}, of {item['place']}" if item["place"] else name
+        yield from (f"{name}, on {place_of(told['logs'][at])}, belongs to {item['place']}"
+                    for at in item["certain_in"])
+
+
 def collection_says_too_much(said):
     """Why, if so, of a collection with at least one log."""
     told, headline = said["object"], said["headline"]
@@ -131,16 +170,23 @@ def collection_says_too_much(said):
             return is_all[0]
         if "no other" in headline and (not is_complete or any(log["hidden"] for log in logs)):
             return "no others"
-        if re.search(r"no other(?!s? answered)", headline) and any(log["deaf"] for log in logs):
+        if "no other" in headline and not names_those(headline, DEAF, told, "deaf"):
             return "no others, though a reader may have gone deaf"
-        if is_complete and any(log["hidden"] for log in logs) and HIDDEN not in headline:
-            return f"it lacks {HIDDEN!r}"
+        if is_complete and any(log["hidden"] for log in logs) and (
+                HIDDEN not in headline or not names_those(headline, WHERE, told, "hidden")):
+            return f"it lacks {HIDDEN!r}, and where"
     if is_complete and is_all:
         has_untagged = bool(re.search(r"ha(s|ve) no tag\b", headline))
         return None if has_untagged == bool(counts["no tag"]) else "whether an item has no tag"
     told_of = dict.fromkeys(wanted, 0)
-    for number, kind in re.findall(rf"{NUMBER} (?:items? )?({'|'.join(KINDS)})", headline):
-        told_of[KINDS[kind]] = told_of.get(KINDS[kind], 0) + number_in(number)
+    for number, kind, which in re.findall(
+            rf"{NUMBER} (?:items? )?({'|'.join(KINDS)})((?: its shelf)? \()?", headline):
+        state = KINDS[kind]
+        told_of[state] = told_of.get(state, 0) + number_in(number)
+        if bool(which) != (number == "1" and kind.startswith(NAMED)):
+            return f"{kind}: which"
+        if which and not any(f"{kind}{which}{name})" in headline for name in named(told, state)):
+            return f"{kind}: another one"
     if told_of != wanted:
         return f"{told_of}, and not {wanted}"
     lacking = [words for words, is_so in (

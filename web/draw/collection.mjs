@@ -2,7 +2,6 @@
 import { maskOf } from "../judge/frames.mjs";
 import { grouped } from "../judge/groups.mjs";
 import { KIND } from "../judge/objects.mjs";
-import { IF_HEARD } from "../say/say.mjs";
 import { SENTENCES } from "../say/sentences.mjs";
 import { firstOf, inOrder, MOST_LISTED, nameOf } from "../say/shelves.mjs";
 import { conditionsOf, sayAll, summaryOf } from "../say/summary.mjs";
@@ -11,7 +10,7 @@ import { count, dated, endings, listing, printable } from "../say/words.mjs";
 import { bullets, drawnLater, el, folded, holds, lowered, oneStop, rest } from "./elements.mjs";
 import { shelved } from "./items.mjs";
 import { Pane } from "./pane.mjs";
-import { banner, doubted, notes, signed, view } from "./view.mjs";
+import { banner, doubted, noResult, notes, signed, view } from "./view.mjs";
 
 /** @typedef {import("../judge/told.mjs").Told} Told */
 /** @typedef {import("../judge/objects.mjs").CollectionObject} CollectionObject */
@@ -45,23 +44,24 @@ const PROVED = "What is said of each item and log is what the library writes of 
  * @param {(name?: string) => boolean} [canLeave] whether a log can be left out
  * @returns {Node[]}
  */
-export function collectionView(object, opener = () => null, canLeave) {
-  const { shelves, doubts, answered, of, elsewhere, others, strays, open, hiding, deaf, isComplete } = summaryOf(object), said = sayAll(object);
+export function collectionView(object, opener = () => null, canLeave = () => false) {
+  const { shelves, doubts, answered, of, elsewhere, others, strays, open, hiding, deaf, isComplete, isUnsettled } = summaryOf(object), said = sayAll(object);
   const { counts, logs, without_log: places } = object, here = of("in place", "there"), home = (/** @type {Item} */ { place }) => printable(place ?? ""), file = printable(object.file);
-  const above = notes([...object.left ?? [], ...answered]), asked = doubted("Logs and shelves", doubts, canLeave);
+  const above = [...noResult(isUnsettled, canLeave()), ...notes([...object.left ?? [], ...answered])], asked = doubted("Logs and shelves", doubts, canLeave);
   if (!logs.length) return [...above, banner(said, file), ...asked, el("p", {}, WAITS)];
   const mayBe = { "may be in": (/** @type {Item} */ item) => shelves.mayBe(item) }, at = (/** @type {Item} */ item) => shelves.at(item);
   const todo = of("missing", "misplaced", "unexpected", "returned").filter((item) => !shelves.isStray(item));
   const isKnown = !todo.length && !strays.length && !counts["not provable"] && !counts["not counted"], conditions = holds(conditionsOf(object));
   const done = [...logs.keys()].filter((it) => !open.includes(it)), isBroken = open.some((it) => logs[it].field.startsWith(KIND.IMPOSSIBLE));
-  const again = `Count ${open.length === 1 ? "it" : "each"} again, to the end, in a new log.`, step = deaf.length ? [IF_HEARD] : SENTENCES.steps.nothing;
+  const again = `Count ${open.length === 1 ? "it" : "each"} again, to the end, in a new log.`, heard = shelves.fields(shelves.sorted(deaf));
   const byEye = counts["no tag"] ? [`Look for ${count(counts["no tag"], "item")} by eye, as said below.`] : [];
-  const steps = [...byEye, ...object.wanted ? [ASK_MORE] : hiding.length ? SENTENCES.steps.oneMore : byEye.length ? [] : step].map((it) => el("li", {}, it));
+  const apart = shelves.sorted(hiding), [spread, send] = SENTENCES.steps.oneMore, oneMore = hiding.length ? [spread.replace(",", ` ${shelves.fields(apart)},`),
+    send.replace("the log", `the log${apart.length > 1 ? "s" : ""} of ${shelves.names(apart)}`)] : byEye.length ? [] : deaf.length ? [`Nothing to do at the shelves. Whoever maintains the reader can let it show that it heard to the end ${heard}, as said below.`] : SENTENCES.steps.nothing;
+  const steps = [...byEye, ...object.wanted ? [ASK_MORE] : oneMore].map((it) => el("li", {}, it));
   const first = places.length ? ` that was counted. First count ${firstOf(places.map(printable))}: they may be there` : "";
   const look = (counts.missing ? `Missing items ${logs.length > 1 || first ? `answered on no shelf${first}` : "didn't answer"}. ${LOOK_FOR}` : "") +
     (counts.unexpected ? NOT_EXPECTED : "") + (counts.returned ? IS_BACK : "");
-  const drawn = (/** @type {string} */ title, /** @type {string} */ words, /** @type {number[]} */ list, isFirst = false) =>
-    logsOf(title, words, list, isFirst, object, opener);
+  const drawn = logsOf.bind(null, object, opener);
   return [...above, banner(said, `${file} · ${count(logs.length, "log")}${spanOf(logs)}`), ...asked,
     ...(isComplete || object.wanted) && !doubts.length ? [el("h2", {}, "At the shelves"), el("ul", { class: "steps" }, steps)] : [],
     ...isKnown ? conditions : [], ...drawn("Count again", again + (isBroken ? AGAIN_BROKEN : ""), open, true),
@@ -106,14 +106,13 @@ function part(title, list, open, words, how, isTodo = true, head = `${title} (${
 
 /**
  * Logs, each drawn when it is opened; those first that say nothing.
+ * @param {CollectionObject} object
+ * @param {Opener} opener
  * @param {string} title
  * @param {string} words
  * @param {number[]} list
- * @param {boolean} open
- * @param {CollectionObject} object
- * @param {Opener} opener
  */
-function logsOf(title, words, list, open, object, opener) {
+function logsOf(object, opener, title, words, list, open = false) {
   const { shelves } = summaryOf(object), isAside = (/** @type {number} */ at) => Number(object.logs[at].field !== "possible");
   const items = shelves.sorted(list).sort((one, other) => isAside(other) - isAside(one)).slice(0, MOST_LOGS).map((at) => el("li", {}, oneLog(object, at, opener(at))));
   return list.length ? [folded(`${title} (${count(list.length, "log")})`, open, ...words ? [el("p", {}, words)] : [],
@@ -176,10 +175,10 @@ function grantedOfAll(object) {
 
 /** @param {CollectionObject} object */
 function recordOfAll(object) {
-  const { counts, items, logs, files, version, answer, file, left = [] } = object;
+  const { counts, items, logs, files, version, answer, file, left = [] } = object, { isUnsettled, answered } = summaryOf(object);
   const states = Object.entries(counts).flatMap(([state, number]) => number ? `${number.toLocaleString("en")} ${state}` : []);
   const said = [count(items.length, "item"), ...states, count(logs.length, "log")].join("\u00A0· ");
   const sums = files.map((it) => el("p", {}, `${printable(it.file)}${it.changed ? ` of ${dated(it.changed)}` : ""}${it.sha256 ? " · SHA-256 " : ""}`, el("code", {}, it.sha256)));
   return el("footer", { class: "record" }, el("p", {}, said), el("p", {}, `vicinity ${version}: `, el("code", {}, printable(answer))), ...sums,
-    ...signed([sayAll(object).headline, ...left, ...summaryOf(object).answered], printable(file), summaryOf(object).isUnsettled));
+    ...isUnsettled ? [] : signed([sayAll(object).headline, ...left, ...answered], printable(file)));
 }

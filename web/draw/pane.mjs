@@ -1,7 +1,7 @@
 /** The text of a log beside its rounds: what names a line leads to it. */
 
 /** Of a text of more bytes only the line is shown that is asked for. */
-const MOST_SEEN_WHOLE = 1_000_000, NEW_LINE = "\n", LARGE = "This log is too long to be shown here. Press the number of a line to see it.";
+const MOST_SEEN_WHOLE = 1_000_000, NEW_LINE = "\n", LARGE = "This log is too long to be shown here. Press the number of a line to see it.", AS_A_LOG = "vicinity-log ..";
 
 export class Pane {
   /** The text, and the number of the field's first line. */
@@ -11,7 +11,7 @@ export class Pane {
   /**
    * @param {HTMLTextAreaElement} field
    * @param {HTMLElement} shown the rounds are somewhere in it
-   * @param {string} [hint] what stands in an empty field; without one it is only read
+   * @param {string} [hint] what an empty field is called; without one it is only read
    */
   constructor(field, shown, hint = "") {
     this.field = field;
@@ -32,7 +32,8 @@ export class Pane {
     this.#firstLine = 1;
     this.field.value = isLarge ? "" : new TextDecoder().decode(text);
     this.field.readOnly = text.length > 0 || !this.hint;
-    this.field.placeholder = isLarge ? LARGE : this.hint;
+    this.field.placeholder = isLarge ? LARGE : this.hint && AS_A_LOG;
+    for (const label of this.field.labels) label.textContent = text.length ? "The text" : this.hint;
   }
 
   /**

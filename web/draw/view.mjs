@@ -3,7 +3,7 @@ import { isSpreadsheet } from "../judge/files.mjs";
 import { hex } from "../judge/frames.mjs";
 import { KIND } from "../judge/objects.mjs";
 import { say } from "../say/say.mjs";
-import { alsoHolds, granted, HOLDS, ifDeaf, isApart, missed, onceMore, silentIn } from "../say/sure.mjs";
+import { alsoHolds, granted, HOLDS, ifDeaf, isApart, missed } from "../say/sure.mjs";
 import { MOST_LISTED } from "../say/shelves.mjs";
 import { count, dated, printable } from "../say/words.mjs";
 import { bullets, button, drawnLater, el, folded, holds, linked, oneStop, rest, toLine } from "./elements.mjs";
@@ -14,7 +14,7 @@ import { rounds } from "./rounds.mjs";
 /** @typedef {Map<string, string>} Names what a catalogue says of UIDs */
 
 /** How many UIDs are shown without being asked for beside other things; of how many lines a conflict has a list, and how many are named there. */
-const FEW = 24, FEW_LINES = 8, MOST_LINES_NAMED = 1000, NO_RESULT = "This sheet is no result: a question above is open.";
+const FEW = 24, FEW_LINES = 8, MOST_LINES_NAMED = 1000, NO_RESULT = "This is no result yet: answer what is asked below, in vicinity.html, with the files.";
 
 /**
  * The whole of what is drawn of a log.
@@ -28,13 +28,20 @@ export function view(told, names = new Map(), isAlone = true, canPress = false) 
   const said = say(told, isAlone), file = printable(told.object.file), { answer, kind } = told.object;
   // without a list, its first tag isn't more than the others
   const what = kind === KIND.UNLISTED && !told.counts.listed ? [file] : [file, el("span", { class: "paper" }, " · ", el("code", {}, answer))];
-  return [...notes(said.answered), banner(said, what), ...doubted("The file", said.doubts, () => canPress), ...shelf(said),
+  return [...noResult(said.doubts.length > 0, canPress), ...notes(said.answered), banner(said, what), ...doubted("The file", said.doubts, () => canPress), ...shelf(said),
     ...conditions(told), ...findings(told, names), ...tags(told, names), ...maintainer(told, said, () => [...rounds(told, names), ...conflict(told)]),
     ...takenForGranted(told), record(told, isAlone, said)];
 }
 
 /** @param {string[]} all what was done, or answered */
 export const notes = (all) => all.map((it) => el("p", { class: "note" }, it));
+
+/**
+ * Where something is asked: on paper, and where it can't be answered.
+ * @param {boolean} isAsked
+ * @param {boolean} canPress whether it can be answered
+ */
+export const noResult = (isAsked, canPress) => isAsked ? [el("p", { class: canPress ? "asked paper" : "asked" }, el("b", {}, NO_RESULT))] : [];
 
 /**
  * What isn't sure, with buttons that answer, and where none of them would leave out what can't be, with these, too.
@@ -70,7 +77,7 @@ export function banner(said, what) {
 function conditions(told) {
   const { object: { kind, open, status }, counts } = told, also = alsoHolds(told)?.words, deaf = ifDeaf(told)?.words;
   const isOfAll = kind === KIND.COMPLETE || status === 1 && !open.count && !counts.listed;
-  const sure = missed(told.object).map((it) => `${it} ${onceMore(told.object.margin ?? 0)}`);
+  const sure = missed(told.object).map((it) => `${it} Asking all of them once more, when none answers, makes it ${(told.object.margin ?? 0) + 1}.`);
   return holds([...isOfAll ? [HOLDS, ...sure] : [], ...also ? [also] : [], ...deaf ? [deaf] : []]);
 }
 
@@ -93,7 +100,7 @@ function findings({ object: { findings, found, open }, counts, silenced }, names
       ...rest(all - items.length))] : [];
   const of = (/** @type {string} */ kind, /** @type {string} */ by) => findings.filter((it) => it.kind === kind)
     .map(({ uid = "", line, overlooked }) => el("li", {}, ...tagWith(uid, names),
-      ...line ? [" ", el("span", { class: "by" }, overlooked ? `${silentIn(overlooked)}; ` : "", by), toLine(line)] : []));
+      ...line ? [" ", el("span", { class: "by" }, overlooked ? `would have been missed in ${count(overlooked, "slot")}; ` : "", by), toLine(line)] : []));
   const maybe = silenced.filter(({ uid }) => !known.has(hex(uid)))
     .map(({ uid, line }) => el("li", {}, ...tagWith(hex(uid), names), " silenced in ", toLine(line)));
   const [one, many] = listed ? ["tag here that isn't listed", "tags here that aren't listed"] : ["tag that is here", "tags that are here"];
@@ -149,26 +156,20 @@ function takenForGranted(told) {
  * @param {import("../say/say.mjs").Said} said
  */
 function record({ object: { file, kind, version, sha256, answer, changed }, counts, faulty }, isAlone, { headline, answered, doubts }) {
-  const isRefused = kind === KIND.REFUSED;
-  const parts = /** @type {[number, string, string?][]} */ ([[counts.rounds, "round"], [counts.slots, "slot"], [counts.heard, "reply", "replies"],
+  const isRefused = kind === KIND.REFUSED, parts = /** @type {[number, string, string?][]} */ ([[counts.rounds, "round"], [counts.slots, "slot"], [counts.heard, "reply", "replies"],
     [counts.quiets, "Stay Quiet"], [counts.cycles, "field cycle"], [counts.listed, "UID listed", "UIDs listed"]]);
   // of a text that isn't a log nothing but its lines is known
   const words = [...isSpreadsheet(faulty) ? [] : [count(counts.lines, "line")],
     ...isRefused ? [] : parts.filter(([number]) => number).map((part) => count(...part))].join("\u00A0· ");
   const sum = sha256 ? [`${changed ? ` · of ${dated(changed)}` : ""} · SHA-256 of the ${isRefused ? "file" : "log"} `, el("code", {}, sha256)] : [];
   return el("footer", { class: "record" }, ...words ? [el("p", {}, words)] : [], el("p", {}, `vicinity ${version}: `, el("code", {}, answer), ...sum),
-    ...isRefused || !isAlone ? [] : signed([headline, ...answered], printable(file), doubts.length > 0));
+    ...isRefused || !isAlone || doubts.length ? [] : signed([headline, ...answered], printable(file)));
 }
 
 /**
- * What was judged, and who counted, where and when: on paper, whose last sheet has it. Where something is asked it is no result.
+ * What was judged, and who counted, where and when: on paper, whose last sheet has it, unless something is asked.
  * @param {string[]} said
  * @param {string} what
- * @param {boolean} [isAsked]
  */
-export function signed(said, what, isAsked) {
-  if (isAsked) return [el("p", { class: "signed" }, NO_RESULT)];
-  return [el("p", { class: "signed" }, `${said.join(" ")} (${what})`),
-    el("p", { class: "signed" }, "Counted on ____________________ at ____________________ by ____________________"),
-    el("p", { class: "signed printed" })];
-}
+export const signed = (said, what) => [`${said.join(" ")} (${what})`, "Counted on ____________________ at ____________________ by ____________________", ""]
+  .map((words) => el("p", { class: words ? "signed" : "signed printed" }, words));

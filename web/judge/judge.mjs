@@ -1,5 +1,5 @@
 /** Objects of logs and of collections: what the library writes of them, and what only who opens them knows. */
-import { isPlaces, kindOf, stemOf, surveyedIn, utf8Of } from "./files.mjs";
+import { hasUids, isPlaces, kindOf, stemOf, surveyedIn, utf8Of } from "./files.mjs";
 import { hasUid, hex, maskOf } from "./frames.mjs";
 import { madeOnce } from "./groups.mjs";
 import { LF } from "./log.mjs";
@@ -84,9 +84,9 @@ function shareLists(items) {
  * @returns {Refused}
  */
 function refusedIn(texts, line, name, fault) {
-  const text = texts.find((it) => it.name === name)?.text ?? new Uint8Array();
+  const file = texts.find((it) => it.name === name), text = file?.text ?? new Uint8Array(), isBeside = fault === "Columns" && file && hasUids(file);
   const isSame = (/** @type {Given} */ it) => [it.name, ...surveyedIn(it)].some((one) => stemOf(one) === stemOf(name));
-  return { name, line, fault, files: texts.flatMap((it) => it.name === name || fault === "SameName" && isSame(it) ? it.name : []),
+  return { name, line, fault, files: texts.flatMap((it) => it.name === name || fault === "SameName" && isSame(it) || isBeside && isPlaces(it) ? it.name : []),
     quoted: DECODED.decode(untilLine(text, line).subarray(lineAt(text, line))).trimEnd() };
 }
 

@@ -9,15 +9,13 @@ import { ANY_LINK, inventoryOf, linkOf, slotMask, SLOTS, uidIn } from "./frames.
 /** @typedef {{kind: "cycle", line: number, end: number}} Cycle */
 /** @typedef {Round | Quiet | Cycle} Row */
 
-export const LF = 10;
-const CR = 13;
+export const LF = 10, CR = 13;
 /** @param {string} letter */
 const codeOf = (letter) => letter.charCodeAt(0), ASKING = codeOf("T"), CYCLED = codeOf("F");
 /** What a slot held, by the letter with which its line begins. */
 const LETTERS = /** @type {[string, Reading][]} */ ([["S", "silent"], ["R", "heard"], ["H", "captured"], ["C", "collision"],
   ["D", "garbled"], ["N", "unknown"]]);
-const READINGS = /** @type {(Reading | undefined)[]} */ (new Array(256).fill(undefined));
-for (const [letter, reading] of LETTERS) READINGS[codeOf(letter)] = reading;
+const READINGS = Array.from({ length: 256 }, (_, code) => LETTERS.find(([letter]) => codeOf(letter) === code)?.[1]);
 /** Those that name a tag, and those in which others may have answered. */
 const REPLIES = new Set(["heard", "captured"]), UNREAD = new Set(["captured", "collision", "garbled", "unknown"]);
 /** Where a frame begins in its line; the digits in it that say that a round has one slot, and that a request is a Stay Quiet. */

@@ -18,13 +18,13 @@ import { count, dated, listing, printable } from "./words.mjs";
 
 /** Of how many logs each has a button, by how much files of one count may differ, in ms, and how many tags are named that two logs prove. */
 const MOST_LEFT = 4, HALF_A_DAY = 43_200_000, MOST_TAGS = 5;
-const MOVED = "What moved in between isn't seen: count there again, or say that its file was only copied.";
+const MOVED = "What moved in between isn't seen: count there again, unless the dates are only those of copies.";
 const COUNTS = "If the newer one counts, open it once more.", ALL_COUNT = "If the newer ones count, open them once more.";
-const IF_THEIRS = "If these are their logs, press the button; else write a table of places, with the columns place and log.";
+const IF_THEIRS = "If these aren't their logs, write a table of places, with the columns place and log.";
 const ONE_FILE = "One is a copy: leave out that of the shelf that wasn't counted, and count there.";
 const OLDER = "may be an older log of the same shelf: leave out the older.";
 const OVERLAP = "The fields of two readers may overlap. If not, a log is an older one, or items were carried in between: count these fields again.";
-const WHICH = "Of one field only one log counts: press that.";
+const WHICH = "Of one field only one log counts: which?";
 /** A page that came by http is given no sums. */
 const NO_SUMS = "One may be a copy of another: by http the browser can't compare them. Open this page as a file, or by https, and there all files.";
 
@@ -98,7 +98,7 @@ export function ofAPlace({ logs, items, unexpected, files, without_log }) {
   return found.map(({ name, place, isCopy }) => {
     const one = nameOf(name), where = printable(place);
     return { short: `no log of ${where}, unless ${one} is it`, isFirst: true, mayNotCount: true, logs: [name], places: [place],
-      cure: "If it is its log, press the button; else leave it out.",
+      cure: `Is it the log of ${where}? If not, it doesn't belong here.`,
       words: isCopy ? `By its name, ${one} is a copy of the log of ${where}, which isn't here.`
         : `No log of ${where}: but all that was heard in ${one} belongs there.`,
       buttons: [[`Count it as ${where}`, { "data-as": `${place}.log`, "data-kept": name }], [`Leave out ${one}`, { "data-leave": name }]] };
@@ -126,7 +126,7 @@ export function interchanged({ logs, items }) {
     return [{ isFirst: true, mayNotCount: true, logs: [name], numbers,
       short: isBoth ? `say whether the logs of ${one} and ${where} were interchanged` : `say whether the log of ${one} is that of ${where}`,
       words: `All ${count(certain, "tag")} in the log of ${one} belong to ${where}${isBoth ? `, and all in its log to ${one}` : ""}.`,
-      cure: isBoth ? "Were the two interchanged?" : `If it is the log of ${where}, close all, and open it under the name of that.`,
+      cure: isBoth ? "Were the two interchanged?" : `If it is the log of ${where}, call it so, and open all anew.`,
       buttons: [...swap, [`No: ${isBoth ? "each" : "it"} is of its place`, { "data-both": key }]] }];
   });
 }

@@ -11,7 +11,8 @@ import { count, dated, listing, printable } from "./words.mjs";
 /** @typedef {import("./shelves.mjs").Shelves} Shelves */
 
 const OTHERS = "An old one, or one of another collection, leave out.", NAME_IT = "Call a log as its place. ";
-const ANY = "If what is there has no fixed place ('any'), write a table of places, with the columns place and log: it says of which place each log is. ";
+/** How the name of a log goes on behind that of its place. */
+const AS_OF = /^[^\p{L}\d]/u, ANY = "If what is there has no fixed place ('any'), write a table of places, with the columns place and log: it says of which place each log is. ";
 const NO_PLACE = "The catalogue names no place: delete its column place, or fill it.";
 const NONE_NAMED = "names none of these logs: correct its column log. Without it, each log is of the place after which it is named.";
 const NO_PLACES = "If items can stand on wrong shelves, add a column 'place', and name each log after its place.";
@@ -67,15 +68,17 @@ function ofPlaces({ without_log, items, logs, files }, asked, known) {
   const left = number ? `${count(number, "item")} that ${number === 1 ? "belongs there isn't" : "belong there aren't"} counted` : "what belongs there is in other logs, or nothing does";
   const noLog = { short: `no log of ${firstOf(places)}${named && `, as ${named} names none of these logs`}`, isFirst: true,
     words: `No log of ${firstOf(places, "and", MOST_LISTED)}: ${left}.`,
-    cure: named ? "" : `Count ${isOne ? "it, or open its log too: it joins" : "them, or open their logs too: these join"} what is here.` };
+    cure: named ? "" : `Count ${isOne ? "it, or open its log" : "them, or open their logs"} together with these.` };
   const isNone = !without_log.length && items.every(({ place }) => place === null), [they, called] = lost.length > 1 ? ["them", "these names"] : ["it", "that name"];
   const unnamed = without_log.filter((place) => stemOf(`${place}.log`) !== place), name = unnamed.length ? `No file can be called ` +
     `${firstOf(unnamed.map(printable))}: write a table of places, with the columns place and log. ` : NAME_IT + (items.some(({ place, uid }) => uid && place === null) ? ANY : "");
   const how = its ? `${printable(its.file)} doesn't name ${they}: correct its column log. ` : `The catalogue has no place of ${called}. ${name}`;
   const newest = Math.max(...logs.map((log) => log.left_over ? 0 : log.changed ?? 0));
   const late = lost.filter(({ changed = 0 }) => newest && changed > newest && dated(changed) !== dated(newest)), last = firstOf(late.map((it) => nameOf(it.name)));
-  const isNew = late.length ? `${last}, of ${dated(late[0].changed)}, is newer than the others: if it is a new count, open it under the name of its place. ` : "";
-  const [cure, more] = isNone ? [NO_PLACE, {}] : table ? [`${named} ${NONE_NAMED}`, leaving([{ name: table.file }])] : [how + isNew + OTHERS, leaving(lost)];
+  const stem = stemOf(lost[0]?.name ?? ""), near = items.find(({ place }) => place && stem.startsWith(place) && AS_OF.test(stem.slice(place.length)))?.place;
+  const isOf = near ? `If ${names[0]} is of ${printable(near)}, call it ${printable(near)}.log; if that is here too, write a table of places, with a row for each. ` : "";
+  const isNew = late.length ? `${last}, of ${dated(late[0].changed)}, is newer than the others: if it is a new count, call it as its place. ` : "";
+  const [cure, more] = isNone ? [NO_PLACE, {}] : table ? [`${named} ${NONE_NAMED}`, leaving([{ name: table.file }])] : [how + isOf + isNew + OTHERS, leaving(lost)];
   const noPlace = { short: `${firstOf(names)} ${lost.length === 1 ? "is" : "are"} of no place`, isFirst: true, cure, ...more,
     words: `${count(lost.length, "log")} of no place: ${firstOf(names, "and", MOST_LISTED)}.` };
   return [...places.length && logs.length ? [noLog] : [], ...lost.length ? [noPlace] : []];
@@ -124,10 +127,10 @@ function withoutAnswer({ logs }, shelves) {
  */
 function notAsked({ logs, columns, items, status }, { isAsked }) {
   const { like, meant, noPlaces } = SENTENCES.catalogues, isLike = new RegExp(like, "i"), names = logs.map(({ name }) => stemOf(name));
-  const isOfLogs = (/** @type {number} */ at, cells = new Set(items.map((it) => it.cells?.[at]))) => names.length && names.every((it) => cells.has(it));
-  const found = columns.map((head) => isLike.exec(head.normalize("NFKC"))), isNear = found.some((it) => it?.[1]);
-  const heads = isAsked ? [] : columns.filter((_, at) => found[at] || isOfLogs(at)).map((it) => `'${printable(it)}'`);
-  // one field needs no places, if all is there, and no column is called almost so
+  const found = isAsked ? [] : columns.map((head, at) => ({ head, like: isLike.exec(head.normalize("NFKC")), cells: new Set(items.map((it) => it.cells?.[at])) }));
+  const meaning = found.filter(({ like, cells }) => like || names.length && names.every((it) => cells.has(it)));
+  const isNear = meaning.some(({ like, cells }) => like?.[1] || cells.size > 1), heads = meaning.map(({ head }) => `'${printable(head)}'`);
+  // one field needs no places, if all is there, and no column is called almost so, or has several places
   return isAsked || logs.length < 2 && !(heads.length && (isNear || status)) ? []
     : [{ short: "where each belongs wasn't asked", words: noPlaces, cure: heads.length ? meant.replace("{}", listing(heads, "or")) : NO_PLACES }];
 }

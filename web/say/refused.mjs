@@ -11,8 +11,8 @@ const COUNT = "Count again, in a new log. If that is refused too, send the log a
 const COPY = "The file may have been cut off, by a full disk or because it was copied while it was written: copy it again.";
 const NO_PART = "If it doesn't belong here, leave it out. A log begins with 'vicinity-log', and a catalogue has a column 'uid'.";
 const ONE_OF_EACH = "Open one catalogue (a table with a column uid), at most one table of places (with the columns place and log), and logs.";
-/** A cell with a UID, low byte first; files of which lines may stand in a table. */
-const TURNED = /(?:^|[,;\t"])(?:[0-9A-F]{2}[ :.-]?){7}E0(?:$|[,;\t"])/i, IN_TABLES = ["surveys", "turned", "list", "binary", "table", "text"];
+/** A cell with a UID, low byte first; files of which lines may stand in a table; and what has no name of a file. */
+const UNNAMED = /^(?:pasted text|standard input)$/, TURNED = /(?:^|[,;\t"])(?:[0-9A-F]{2}[ :.-]?){7}E0(?:$|[,;\t"])/i, IN_TABLES = ["surveys", "turned", "list", "binary", "table", "text"];
 /** How a text begins that somebody meant as a log, but for what an editor adds to it, or a coding makes of it. */
 const [BEGINS, LOG_IS] = SENTENCES.aLog, isOfALog = (/** @type {string} */ text) => new RegExp(BEGINS, "i").test(text.replace(/[\0\uFEFF\uFFFD]/g, ""));
 
@@ -44,8 +44,8 @@ function advice(fault, ...parts) {
  * @returns {{headline: string, shelf: Step[], causes: string[]}}
  */
 export function refused(told) {
-  const { object: { line = 0, fault = "", ended }, faulty, counts } = told, isCut = line === counts.lines && line > 1 && !ended;
-  if (!counts.lines) return { headline: "The text is empty.", shelf: SENTENCES.files.text.slice(2), causes: [] };
+  const { object: { line = 0, fault = "", ended, file }, faulty, counts } = told, isCut = line === counts.lines && line > 1 && !ended;
+  if (!counts.lines) return { headline: `The ${UNNAMED.test(file) ? "" : "file "}${printable(file)} is empty.`, shelf: SENTENCES.files.text.slice(2), causes: [] };
   if (isForeign(told)) {
     const [, [, what, ...fix]] = foundIn(faulty);
     return { headline: SENTENCES.answers.foreign.replace("{}", what), shelf: [...fix, LOG_IS], causes: [] };
@@ -68,8 +68,7 @@ export function noAnswer({ name = "", line = 0, fault = "", quoted = "", files }
   const { wrong, fix } = fault === "Columns" && !TABLE.test(name) ? wrongFile(quoted) : wrongTable(quoted, line, fault);
   if (fault === "SameName") return { error: `${name}: ${wrong}`, cure: [fix], files };
   if (isSpreadsheet(quoted)) return { error: `${name} is a spreadsheet: save it as CSV`, cure: [SENTENCES.files.sheet[3], "If it isn't the catalogue, leave it out."], files };
-  const isShown = quoted && !quoted.includes("\0");
-  return { error: `${name}, line ${line}: ${wrong}`, cure: [fix, ...isShown ? [`Line ${line} is: ${printable(quoted)}`] : []], files };
+  return { error: `${name}, line ${line}: ${wrong}`, cure: [fix, ...quoted && !quoted.includes("\0") ? [`Line ${line} is: ${printable(quoted)}`] : []], files };
 }
 
 /**

@@ -32,7 +32,6 @@ import { whyOpen } from "./why.mjs";
 const AGAIN = "Count again, to the end.", CYCLE = "Switch the reader off and on, and count again.";
 const NEW_LOG = "Count again, in a new log: with less interference, tags that lie still and not on top of each other, and no second reader.";
 const LOOK = "Or look whether what isn't proved is there: the answer speaks only of what the log shows.";
-export const IF_HEARD = "Nothing to do at the shelves. Whoever maintains the readers can let them show that they heard to the end, as said below.";
 const ONE_ROUND = "To see whether others are here: run the inventory again, to a last round that no tag answers.";
 const COMPARE = "To see the items' titles, and what should be here: open a catalogue (CSV) together with the log.";
 /** If the list is what was expected here, and if it is what the reader found: of tags that didn't answer, and of others. */
@@ -123,8 +122,7 @@ function lightsOf(told, isAlone, finished, list) {
  * @returns {Step[]}
  */
 function steps({ object: { kind, found, open, captured: ifHidden, deaf }, counts: { listed }, quiet }, isAlone) {
-  if (kind === KIND.COMPLETE && !isAlone) return [];
-  if (kind === KIND.COMPLETE) return !listed ? STEPS.empty : ifHidden?.holds === false ? STEPS.oneMore : deaf?.holds ? STEPS.nothing : STEPS.hears;
+  if (kind === KIND.COMPLETE) return !isAlone ? [] : !listed ? STEPS.empty : ifHidden?.holds === false ? STEPS.oneMore : deaf?.holds ? STEPS.nothing : STEPS.hears;
   if (!open.count && !listed) return [...ifHidden?.settled === false ? [ONE_ROUND, STAYS] : [], ...isAlone ? [COMPARE] : []];
   const isMore = found.unlisted > 0 && listed > 0, differs = found.absent > 0 || isMore;
   const titles = (differs || found.doubtful) && isAlone ? [COMPARE] : [];

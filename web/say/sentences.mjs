@@ -69,7 +69,7 @@ export const SENTENCES = {
     "page": ["^\\s*<(?:!doctype html|html)", ", but a web page", "If it was saved here as an answer, open it in the browser itself, as by a double click."],
     "sheet": ["^(?:PK\u0003\u0004|\uFFFD\uFFFD\u0011[\u0871\uFFFD])", ", but a ZIP file, a spreadsheet or a document",
       "Unpack a ZIP file, and open the logs that are in it.",
-      "Save a spreadsheet of what should be here as CSV (in Excel: Save As, CSV UTF-8), its column of tag numbers named 'uid'; open that with the logs."],
+      "Save a spreadsheet of what should be here as CSV (in Excel: Save As, CSV UTF-8; in LibreOffice: Save As, Text CSV; in Numbers: Export To, CSV), its column of tag numbers named 'uid'; open that with the logs."],
     "packed": ["^(?:\u001F\uFFFD\b|BZh|\uFFFD7zXZ|7z\uFFFD\uFFFD'|Rar!|\\(\uFFFD/\uFFFD)", ", but a packed file", "Unpack it, and open what was in it."],
     "trace": ["^\\s*(?:\\[[+=!#?|-]\\] |\\[(?:usb|bt|fpc)|pm3 |proxmark|Recorded activity|Start \\| +End \\| Src)", ", but a trace of a Proxmark",
       "It hasn't the slots in which no tag answered, so it can't show whether a tag was missed.",
@@ -97,14 +97,13 @@ export const SENTENCES = {
   "catalogues": {
     "cut": "of which the last has no line end, so the file may have been cut off",
     "noPlaces": "The catalogue has no column 'place', so an item on a wrong shelf isn't noticed, nor a shelf that wasn't counted.",
-    "like": "^[\\W_]*(?:([p\u0440]l[a\u0430][c\u0441][e\u0435]s?)|shel(?:f|ves)|(?:shelf|place) ?marks?|locations?|rooms?|bays?|racks?|bins?|box(?:es)?|drawers?|cabinets?)[\\W_]*$",
+    "like": "^[\\W_]*(?:([p\u0440]l[a\u0430][c\u0441][e\u0435]s?)|shel(?:f|ves)|(?:shelf|place)[ _-]?(?:marks?|names?|no|numbers?|ids?|codes?)|locations?|(?:stand)?ort|regal|raum|lieu|emplacement|salle|lugar|luogo|plaats|rooms?|bays?|racks?|bins?|box(?:es)?|drawers?|cabinets?)[\\W_]*$",
     "meant": "If column {} says where each item belongs, rename it to place."
   },
   "parts": {
-    "count": "Don't change this line. Count again, using only Inventory and Stay Quiet.",
+    "count": "Don't change this line. Count again, using only Inventory and Stay Quiet.", "logger": "Fix the software that writes the log.",
     "crc": "Write the frame as it was on the air, with both bytes of its CRC, low byte first. If the chip removes the CRC, add it again.",
-    "damaged": "A reply that was damaged gets the line D in a log of version 2 or 3, or N in version 3 if it may have been noise; in version 1 its slot, and the rest of its round, get no line.",
-    "logger": "Fix the software that writes the log."
+    "damaged": "A reply that was damaged gets the line D in a log of version 2 or 3, or N in version 3 if it may have been noise; in version 1 its slot, and the rest of its round, get no line."
   },
   "steps": {
     "nothing": ["Nothing to do."], "hears": ["Nothing to do, if the reader worked to the end: whoever maintains it can see whether it did."],
@@ -119,7 +118,7 @@ export const SENTENCES = {
     "noLog": "This text isn't a log", "foreign": "This file isn't a log{}.", "notFinished": "Not finished: ", "empty": "No tag answered, and nothing is listed.",
     "emptyField": "No tag answered.", "noneAnswered": ["No tag answered, but {} is listed.", "No tag answered, but {} are listed."],
     "allListed": ["The one listed tag is here", "All {} listed tags are here"], "tagsHere": ["{} tag is here", "{} tags are here"],
-    "noOthers": [", and no other.", ", and no others."], "noOthersHeard": [", and no other answered.", ", and no others answered."],
+    "noOthers": [", and no other.", ", and no others."], "noOthersHeard": [", and no other, if the reader heard to the end.", ", and no others, if the reader heard to the end."],
     "ifHidden": "; others may be, if stronger replies hid them.", "othersAre": "others are too", "othersMayBe": "others may be too",
     "noneRead": "tags are here, but none was read", "noneProved": "no tag is proved to be here, but some may be", "absent": "{} didn't answer",
     "unlisted": ["{} tag here isn't listed", "{} tags here aren't listed"], "doubtful": ["{} isn't proved", "{} aren't proved"],

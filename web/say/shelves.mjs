@@ -5,8 +5,8 @@ import { listing, printable } from "./words.mjs";
 /** @typedef {import("../judge/objects.mjs").Item} Item */
 /** @typedef {import("../judge/objects.mjs").CollectionObject} CollectionObject */
 
-/** How many names are said in few words, and in a sentence. */
-export const MOST_NAMES = 3, MOST_LISTED = 12;
+/** How many names are said in few words, and in a sentence; and how much of one that is long. */
+export const MOST_NAMES = 3, MOST_LISTED = 12, MOST_SHORT = 60;
 /** Columns that say what the page says otherwise, and that of places, as the library reads its name. */
 const KNOWN = new Set(["uid", "away"]), PLACE = /^[ \t]*place[ \t]*$/i;
 /** Shelf 2 before Shelf 10. */
@@ -103,7 +103,17 @@ export class Shelves {
    * @param {Item} item
    * @param {number} most
    */
-  said({ cells = [] }, most) { return this.columns.map(({ at }) => cells[at] ?? "").filter((cell) => cell.trim()).slice(0, most).join(" · "); }
+  said({ cells = [], place }, most) { return this.columns.map(({ at }) => cells[at]?.trim() ?? "").filter((cell) => cell && cell !== place).slice(0, most).join(" · "); }
+
+  /**
+   * One item in brackets, as the catalogue has it, or by its UID, and where it was heard, or belongs; nothing of several.
+   * @param {Item[]} items
+   */
+  only([item, ...more]) {
+    const { state, place, uid } = item, name = printable(this.said(item, 2) || uid || ""), home = printable(place ?? "");
+    const where = state === "misplaced" ? `, on ${this.at(item)}, belongs to ${home}` : home && `, of ${home}`;
+    return more.length ? "" : ` (${name.length > MOST_SHORT ? `${name.slice(0, MOST_SHORT)}…` : name}${where})`;
+  }
 }
 
 /**

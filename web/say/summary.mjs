@@ -62,7 +62,7 @@ export function sayAll(object) {
 
 /** @param {CollectionObject} object */
 export function headlineOf(object) {
-  const { here, isComplete, hiding, deaf, doubts, isAsked, isUnsettled } = summaryOf(object), { items, without_log: places } = object;
+  const { here, isComplete, hiding, deaf, doubts, isAsked, isUnsettled, shelves } = summaryOf(object), { items, without_log: places } = object;
   const where = places.length ? ` in ${count(places.length, "place")}` : "";
   if (!object.logs.length) return `The catalogue has ${count(items.length, "item")}${where}. Now open the logs.`;
   if (object.wanted) return notSure(object.margin?.margin, object.wanted);
@@ -72,7 +72,9 @@ export function headlineOf(object) {
   const but = [...untagged, ...said.slice(0, MOST_DOUBTS), ...more > 0 ? [`${more} more`] : []];
   const all = here === 1 ? "The one expected item is" : `All ${count(here, "expected item")} are`;
   if (isUnsettled) return `${all} in some log; but ${listing(but)}.`;
-  return `${here ? `${all} here${noOthers(here, hiding.length > 0, deaf.length > 0)}` : NOTHING}${but.length ? ` But ${listing(but)}.` : ""}`;
+  const others = noOthers(here, hiding.length > 0, deaf.length > 0).replace("may be,", `may be ${shelves.fields(shelves.sorted(hiding))},`)
+    .replace("the reader", `the reader${deaf.length > 1 ? "s" : ""} of ${shelves.names(shelves.sorted(deaf))}`);
+  return `${here ? `${all} here${others}` : NOTHING}${but.length ? ` But ${listing(but)}.` : ""}`;
 }
 
 /**
@@ -80,17 +82,17 @@ export function headlineOf(object) {
  * @param {CollectionObject} object
  */
 function lacking(object) {
-  const { here, shelves, doubts, of, elsewhere, others, strays: stray, open, isAsked, isUnsettled } = summaryOf(object), strays = stray.length;
-  const { counts, logs } = object, again = shelves.sorted(open), unsure = new Set(doubts.flatMap(({ numbers = [] }) => numbers));
-  const maybe = of("misplaced").filter((item) => !shelves.isStray(item) && item.certain_in.every((at) => unsure.has(at) || logs[at].left_over));
-  const { length: lost } = of("missing").filter(({ place }) => place !== null && shelves.counted.get(place)?.every((at) => unsure.has(at)));
-  const strayed = `heard in ${new Set(stray.flatMap((item) => item.certain_in)).size > 1 ? "logs" : "a log"} of no place`;
-  const parts = /** @type {[number, string][]} */ ([[counts.missing - lost, "missing"], [lost, "may be missing"],
-    [elsewhere.length, `not heard on ${elsewhere.length === 1 ? "its shelf" : "their shelves"}`],
-    [counts.misplaced - strays - maybe.length, "in the wrong place"], [maybe.length, "may be in the wrong place"],
-    [strays, strayed], [counts.unexpected, "not in the catalogue"], [counts.returned, "back that should be away"],
-    [counts["not counted"], "not counted"], [others.length, "not known yet"], [counts["no tag"], "without a tag"]]);
-  const said = parts.filter(([number]) => number).map(([number, what], at) => `${at ? number.toLocaleString("en") : count(number, "item")} ${what}`);
+  const { here, shelves, doubts, of, elsewhere, others, strays, open, isAsked, isUnsettled } = summaryOf(object), { logs } = object;
+  const again = shelves.sorted(open), unsure = new Set(doubts.flatMap(({ numbers = [] }) => numbers));
+  const strayed = `heard in ${new Set(strays.flatMap((item) => item.certain_in)).size > 1 ? "logs" : "a log"} of no place`;
+  const lost = grouped(of("missing"), ({ place }) => place !== null && !!shelves.counted.get(place)?.every((at) => unsure.has(at)));
+  const moved = grouped(of("misplaced").filter((it) => !shelves.isStray(it)), (it) => it.certain_in.every((at) => unsure.has(at) || logs[at].left_over));
+  const parts = /** @type {[Item[] | undefined, string, boolean?][]} */ ([[lost.get(false), "missing", true], [lost.get(true), "may be missing", true],
+    [elsewhere, `not heard on ${elsewhere.length === 1 ? "its shelf" : "their shelves"}`, true], [moved.get(false), "in the wrong place", true],
+    [moved.get(true), "may be in the wrong place", true], [strays, strayed], [of("unexpected"), "not in the catalogue"],
+    [of("returned"), "back that should be away"], [of("not counted"), "not counted"], [others, "not known yet"], [of("no tag"), "without a tag"]]);
+  const said = parts.flatMap(([its, ...words]) => its?.length ? [{ its, words }] : []).map(({ its, words: [what, isNamed] }, at) =>
+    `${at ? its.length.toLocaleString("en") : count(its.length, "item")} ${what}${isNamed ? shelves.only(its) : ""}`);
   const number = again.length <= MOST_NAMES && again.every((at) => shelves.isPlaced(at)) ? shelves.names(again)
     : again.length < logs.length || again.length === 1 ? count(again.length, "log") : "all logs";
   const all = said.length || !here ? "" : here === 1 ? "the one expected item" : `all ${count(here, "expected item")}`;
@@ -107,7 +109,7 @@ function lacking(object) {
 function lights(object) {
   const { counts, items, logs, without_log: { length: places }, margin } = object;
   const { here, open, hiding, deaf, isResting, isUnsettled, shelves: { isAsked: isPlaced } } = summaryOf(object);
-  const other = margin ? "others may be here" : "the answer may be wrong", lost = places ? `, no log of ${count(places, "place")}` : "";
+  const other = margin ? "others may be here" : "the answer may be wrong", lost = places ? `; ${count(places, "place has", "places have")} none` : "";
   const sure = howSure(isUnsettled ? undefined : margin?.margin, "still complete", other, hiding.length > 0, deaf.length > 0);
   const done = logs.length - open.length - hiding.length, heard = items.filter(({ certain_in: its }) => its.length).length;
   const more = (/** @type {number} */ number, /** @type {string} */ words) => number ? `, ${number.toLocaleString("en")} ${words}` : "";
@@ -116,11 +118,10 @@ function lights(object) {
     `${number.toLocaleString("en")} of ${count(all.length, one)}`;
   const value = of(isUnsettled ? heard : here, items, "item") + more(counts.away, "away") + more(counts["no tag"], "without a tag") +
     more(isPlaced ? counts.there : 0, "without a place");
-  const all = /** @type {Light[]} */ ([
-    { name: "Search finished", value: of(done, logs, "log") + lost, look: done === logs.length && !lost ? "yes" : "no" },
-    { name: isUnsettled ? "In some log" : isPlaced ? "In place" : "Here", value,
-      look: here && here + counts.away === items.length ? "yes" : differs ? "no" : "plain" }, ...isResting ? sure : []]);
-  return all.map((it) => isUnsettled && it.look === "yes" ? { ...it, look: "plain" } : it);
+  return /** @type {Light[]} */ ([
+    { name: "Counted to the end", value: of(done, logs, "log") + lost, look: done === logs.length && !lost ? "yes" : "no" },
+    { name: isUnsettled ? "Found, if all logs count" : isPlaced ? "In place" : "Here", value,
+      look: here && here + counts.away === items.length ? "yes" : differs ? "no" : "plain" }, ...isResting ? sure : []]).map((it) => isUnsettled && it.look === "yes" ? { ...it, look: "plain" } : it);
 }
 
 /**

@@ -16,8 +16,6 @@ const IF_HIDDEN = "If a strong reply hid a weaker one, the answer ", IF_DEAF = "
 export const deafIn = (where = "") => `${IF_DEAF}may be wrong${where}. To know, switch the field off and on, and let the reader ask once more ` +
   "for a tag that was found.";
 export const DEAF = "A reader that is deaf writes the same log: only a tag at its antenna shows that it hears.";
-/** @param {number} margin */
-export const onceMore = (margin) => `Asking all of them once more, when none answers, makes it ${margin + 1}.`;
 export const TO_KNOW = "silence each tag that was heard, and ask all in one slot, until none answers";
 
 /**
@@ -127,9 +125,3 @@ export const missed = ({ margin, weakest }, where = "") => !margin || !weakest ?
  */
 export const notSure = (margin, wanted) => (margin ? `Not sure enough: a tag would have had to be missed in ${count(margin, "slot")}`
   : "Not sure enough: how often a tag would have had to be missed isn't known") + `, and ${wanted.toLocaleString("en")} or more were asked for.`;
-
-/**
- * How sure it is that a tag isn't here.
- * @param {number} slots
- */
-export const silentIn = (slots) => `would have been missed in ${count(slots, "slot")}`;
