@@ -1,5 +1,5 @@
 -- How lists of cells change.
-use Rattle.vic_sets.proofs.Words.{◌≡◌, ℕ, zero, suc, ◌+◌, ◌-◌, ◌*◌, ◌^◌, ◌<◌, ◌⊎◌, inl, inr, refl, sym, ap, subst, ◌∙◌, arith, Bool, true, false, not, cond, ◌&&◌, ◌||◌, ◌==◌, List, [], ◌∷◌, ◌++◌, Contains, filter, length, get_or, take, pow_pos, mod-eq_of_lt, rules, BitMask, IsMask, IsUid, lies_in, in_cells, AreCells, cut_at, nat_tests, list_any, or_parts, cases_Bool, list_any-append, list_any_at, All-push, All-filter, All-contains, All-contains_itself, Contains-push_cases, shr_high, mod_low, Any-from_list_any, any-filter_same, div-eq_of_lt, lower_half, upper_half, or_false, IsCell, IsApart, AreApart, NoHalves, beside}
+use Rattle.vic_sets.proofs.Words.{◌≡◌, ℕ, zero, suc, ◌+◌, ◌-◌, ◌*◌, ◌^◌, ◌<◌, ◌⊎◌, inl, inr, refl, sym, ap, subst, ◌∙◌, arith, Bool, true, false, not, cond, ◌&&◌, ◌||◌, ◌==◌, List, [], ◌∷◌, ◌++◌, Contains, filter, length, get_or, take, pow_pos, mod-eq_of_lt, rules, BitMask, IsMask, IsUid, lies_in, in_cells, AreCells, cut_at, nat_tests, list_any, or_parts, cases_Bool, list_any-append, list_any_at, All-push, All-filter, All-contains, All-contains_itself, Contains-push_cases, shr_high, mod_low, Any-from_list_any, any-filter_same, div-eq_of_lt, lower_half, upper_half, or_false, IsCell, IsApart, AreApart, NoHalves, flipped}
 use Rattle.vic_sets.proofs.CutLaws.{cut_parted}
 
 -- a cell more
@@ -16,14 +16,14 @@ apart_pushed (x ∷ xs) m a h = (first, apart_pushed xs m a.1 (λ u i k. (or_par
 abbrev pub longer : BitMask → ℕ → BitMask
 longer k v = record { len = k.len + 1; value = v }
 
--- the halves of a mask lie beside each other
-beside_lower : (k : BitMask) → IsMask k → beside (k.len + 1 - 1) (lower_half k) ≡ upper_half k
-beside_lower k h =
+-- each half of a mask is the other one flipped
+flipped_lower : (k : BitMask) → IsMask k → flipped (k.len + 1 - 1) (lower_half k) ≡ upper_half k
+flipped_lower k h =
     let back : k.len + 1 - 1 ≡ k.len = omega arith in
     rw back (ap (longer k) (rw (div-eq_of_lt h.1, mod-eq_of_lt h.1) refl))
 
-beside_upper : (k : BitMask) → IsMask k → beside (k.len + 1 - 1) (upper_half k) ≡ lower_half k
-beside_upper k h =
+flipped_upper : (k : BitMask) → IsMask k → flipped (k.len + 1 - 1) (upper_half k) ≡ lower_half k
+flipped_upper k h =
     let back : k.len + 1 - 1 ≡ k.len = omega arith in
     let is : k.value + 2 ^ k.len ≡ 1 * 2 ^ k.len + k.value = omega arith in
     rw back (ap (longer k) (rw (is, shr_high 1 k.len k.value h.1, mod_low 1 k.len k.value h.1) (omega arith)))
@@ -31,12 +31,12 @@ beside_upper k h =
 halves_differ : (k : BitMask) → lower_half k ≡ upper_half k → ⊥
 halves_differ k e = let v = ap (λ (m : BitMask). m.value) e in let p = pow_pos k.len in omega arith
 
-joined_pushed : (cells : List BitMask) (m : BitMask) → NoHalves cells → (0 < m.len → Contains cells (beside (m.len - 1) m) → ⊥) → NoHalves (cells ++ m ∷ [])
+joined_pushed : (cells : List BitMask) (m : BitMask) → NoHalves cells → (0 < m.len → Contains cells (flipped (m.len - 1) m) → ⊥) → NoHalves (cells ++ m ∷ [])
 joined_pushed cells m joined alone k is_mask lower upper = at_places (Contains-push_cases cells m (lower_half k) lower) (Contains-push_cases cells m (upper_half k) upper) where
   at_places : Contains cells (lower_half k) ⊎ (m ≡ lower_half k) → Contains cells (upper_half k) ⊎ (m ≡ upper_half k) → ⊥
   at_places (inl a) (inl b) = joined k is_mask a b
-  at_places (inl a) (inr e) = (rw e at alone) (omega arith) (subst (Contains cells) (sym (beside_upper k is_mask)) a)
-  at_places (inr e) (inl b) = (rw e at alone) (omega arith) (subst (Contains cells) (sym (beside_lower k is_mask)) b)
+  at_places (inl a) (inr e) = (rw e at alone) (omega arith) (subst (Contains cells) (sym (flipped_upper k is_mask)) a)
+  at_places (inr e) (inl b) = (rw e at alone) (omega arith) (subst (Contains cells) (sym (flipped_lower k is_mask)) b)
   at_places (inr e) (inr f) = halves_differ k (sym e ∙ f)
 
 -- a cell in front, or behind
@@ -118,16 +118,16 @@ kept_cells : (p : BitMask → Bool) (xs : List BitMask) → AreCells xs → AreC
 kept_cells p xs h = record { are_cells = All-filter p IsCell xs h.are_cells; apart = apart_kept p xs h.apart; joined = joined_kept p xs h.joined }
 
 -- and a cell more
-pub pushed_cells : (xs : List BitMask) (m : BitMask) → AreCells xs → IsCell m → IsApart m xs → (0 < m.len → Contains xs (beside (m.len - 1) m) → ⊥) → AreCells (xs ++ m ∷ [])
+pub pushed_cells : (xs : List BitMask) (m : BitMask) → AreCells xs → IsCell m → IsApart m xs → (0 < m.len → Contains xs (flipped (m.len - 1) m) → ⊥) → AreCells (xs ++ m ∷ [])
 pushed_cells xs m h cell apart alone = record { are_cells = All-push IsCell xs m h.are_cells cell; apart = apart_pushed xs m h.apart apart; joined = joined_pushed xs m h.joined alone }
 
--- the cell beside a mask m that lies in none of them is taken out, and both together, the mask w, put in its place
+-- the cell that is the flipped m, a mask that lies in none of them, is taken out, and both together, the mask w, put in its place
 pub record Merged (m w : BitMask) (old new : List BitMask) : Type 0 where
   pub cells : AreCells new
   pub apart : IsApart w new
   pub same : (u : ℕ) → IsUid u → (in_cells new u || lies_in w u) ≡ (in_cells old u || lies_in m u)
 
-pub merged : (s m w : BitMask) (old new : List BitMask) → new ≡ filter (λ x. not (same_mask x s)) old → 0 < m.len → IsMask m → s ≡ beside (m.len - 1) m → w ≡ cut_at (m.len - 1) m → list_any (λ x. same_mask x s) old ≡ true → AreCells old → IsApart m old → Merged m w old new
+pub merged : (s m w : BitMask) (old new : List BitMask) → new ≡ filter (λ x. not (same_mask x s)) old → 0 < m.len → IsMask m → s ≡ flipped (m.len - 1) m → w ≡ cut_at (m.len - 1) m → list_any (λ x. same_mask x s) old ≡ true → AreCells old → IsApart m old → Merged m w old new
 merged s m w old new kept pos is_mask is cut found' h apart = rw kept record {
   cells = kept_cells (λ x. not (same_mask x s)) old h;
   apart = λ u i e. grind (arith, nat_tests, parts u, apart u i, kept_others s old u, out u i, not_kept (λ x. not (same_mask x s)) old u);

@@ -1,5 +1,5 @@
--- Masks cut from masks, and what lies beside them.
-use Rattle.vic_sets.proofs.Words.{◌≡◌, ℕ, ◌+◌, ◌-◌, ◌*◌, ◌/◌, ◌^◌, ◌%◌, ◌<◌, ◌≤◌, inl, inr, sym, ap, ◌∙◌, arith, Bool, true, false, not, cond, ◌&&◌, ◌||◌, ◌==◌, pow_pos, mod-eq_of_lt, nat_tests, mod_below, cases_eq, BitMask, IsMask, lies_in, mod_mod_pow, cut_at, mod_pow_more, same_from_place, holds, beside}
+-- Masks cut from masks, and flipped ones.
+use Rattle.vic_sets.proofs.Words.{◌≡◌, ℕ, ◌+◌, ◌-◌, ◌*◌, ◌/◌, ◌^◌, ◌%◌, ◌<◌, ◌≤◌, inl, inr, sym, ap, ◌∙◌, arith, Bool, true, false, not, cond, ◌&&◌, ◌||◌, ◌==◌, pow_pos, mod-eq_of_lt, nat_tests, mod_below, cases_eq, BitMask, IsMask, lies_in, mod_mod_pow, cut_at, mod_pow_more, same_from_place, holds, flipped}
 
 -- x and y have the bits b and c above their rests r and s
 same_top : (x b r y c s t : ℕ) → r < t → s < t → x ≡ b * t + r → y ≡ c * t + s → (x == y) ≡ ((r == s) && (b == c))
@@ -15,8 +15,8 @@ other_bit b c s t p q = elim (cases_eq c 0) [
   | inr nz ↦ let one : c ≡ 1 = omega arith in rw one (omega arith, grind (arith, nat_tests))
 ]
 
-pub beside_is : (m : BitMask) (l u : ℕ) → lies_in (beside l m) u ≡ (lies_in (cut_at l m) u && not (u / 2 ^ l % 2 == m.value / 2 ^ l % 2))
-beside_is m l u =
+pub flipped_is : (m : BitMask) (l u : ℕ) → lies_in (flipped l m) u ≡ (lies_in (cut_at l m) u && not (u / 2 ^ l % 2 == m.value / 2 ^ l % 2))
+flipped_is m l u =
     let other = other_bit (u / 2 ^ l % 2) (m.value / 2 ^ l % 2) (m.value % 2 ^ l) (2 ^ l) (mod_below (u / 2 ^ l) 2 (omega arith)) (mod_below (m.value / 2 ^ l) 2 (omega arith)) in
     same_top (u % 2 ^ (l + 1)) (u / 2 ^ l % 2) (u % 2 ^ l) _ (1 - m.value / 2 ^ l % 2) (m.value % 2 ^ l) (2 ^ l) (mod_below u (2 ^ l) (pow_pos l)) (mod_below m.value (2 ^ l) (pow_pos l)) (mod_pow_more u l) other.0
     ∙ ap (λ b. lies_in (cut_at l m) u && b) other.1
@@ -32,13 +32,13 @@ cut_less m k l u le h = grind (arith, nat_tests, mod_mod_pow u k l le, mod_mod_p
 pub cut_self : (m : BitMask) → IsMask m → cut_at m.len m ≡ m
 cut_self m h = ap (λ (v : ℕ). record { len = m.len; value = v }) (mod-eq_of_lt h.1)
 
--- a mask that is cut is the mask and what lies beside it
-pub cut_parted : (m : BitMask) (u : ℕ) → IsMask m → 0 < m.len → lies_in (cut_at (m.len - 1) m) u ≡ (lies_in m u || lies_in (beside (m.len - 1) m) u)
+-- a mask without its last bit is the mask and the flipped one
+pub cut_parted : (m : BitMask) (u : ℕ) → IsMask m → 0 < m.len → lies_in (cut_at (m.len - 1) m) u ≡ (lies_in m u || lies_in (flipped (m.len - 1) m) u)
 cut_parted m u h pos =
     let l : ℕ = m.len - 1 in
     let e : l + 1 ≡ m.len = omega arith in
     let whole : lies_in m u ≡ lies_in (cut_at (l + 1) m) u = ap (λ x. lies_in x u) (sym (cut_self m h)) ∙ ap (λ n. lies_in (cut_at n m) u) (sym e) in
-    bits _ _ _ _ (whole ∙ cut_more m l u) (beside_is m l u)
+    bits _ _ _ _ (whole ∙ cut_more m l u) (flipped_is m l u)
   where
     bits : (c w x b : Bool) → w ≡ (c && b) → x ≡ (c && not b) → c ≡ (w || x)
     bits c w x b p q = grind (arith, nat_tests)

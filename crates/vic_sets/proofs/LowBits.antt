@@ -1,5 +1,5 @@
 -- What a node says depends on the low bits alone.
-use Rattle.vic_sets.proofs.Words.{◌≡◌, ℕ, ◌+◌, ◌-◌, ◌*◌, ◌/◌, ◌^◌, ◌%◌, ◌<◌, ◌≤◌, refl, sym, ap, ◌∙◌, arith, true, eqb-true, eq-eqb, mod_below, BitMask, mod_mod_pow, Node, Fork', Clear, Shut, open_at, height, IsWidest, IsWidestOf, AllOpen}
+use Rattle.vic_sets.proofs.Words.{◌≡◌, ℕ, ◌+◌, ◌-◌, ◌*◌, ◌/◌, ◌^◌, ◌%◌, ◌<◌, ◌≤◌, refl, sym, ap, ◌∙◌, arith, true, eqb-true, eq-eqb, mod_below, BitMask, mod_mod_pow, Node, Fork', Full, Empty, open_at, height, IsWidest, IsWidestOf, AllOpen}
 use Rattle.vic_sets.proofs.Bits.{low_and_rest}
 
 -- the lowest bit and the rest of the low bits
@@ -11,8 +11,8 @@ halved u len v pos h =
     (omega arith, omega arith)
 
 open_at_low : (n : Node) (k u v : ℕ) → height n ≤ k → u % 2 ^ k ≡ v % 2 ^ k → open_at n u ≡ open_at n v
-open_at_low Clear k u v h e = refl
-open_at_low Shut k u v h e = refl
+open_at_low Full k u v h e = refl
+open_at_low Empty k u v h e = refl
 open_at_low (Fork' p l r) k u v h e =
     let pos : 0 < k = omega arith in
     let a = halved u k (v % 2 ^ k) pos e in

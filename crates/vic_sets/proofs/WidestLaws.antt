@@ -1,5 +1,5 @@
 -- The widest mask of a fork, from those of its halves.
-use Rattle.vic_sets.proofs.Words.{◌≡◌, ℕ, ◌+◌, ◌-◌, ◌*◌, ◌/◌, ◌^◌, ◌%◌, ◌<◌, ◌⊎◌, inl, inr, Box, refl, sym, ap, ◌∙◌, arith, Bool, false, cond, ◌==◌, cases_eq, mod-eq_of_lt, Global, mod_below, pow_more, BitMask, Node, Fork', Clear, Shut, Fork, Halves, open_at, IsAtMost, IsWidestOf, IsReduced, AllPass, with_low_bit}
+use Rattle.vic_sets.proofs.Words.{◌≡◌, ℕ, ◌+◌, ◌-◌, ◌*◌, ◌/◌, ◌^◌, ◌%◌, ◌<◌, ◌⊎◌, inl, inr, Box, refl, sym, ap, ◌∙◌, arith, Bool, false, cond, ◌==◌, cases_eq, mod-eq_of_lt, Global, mod_below, pow_more, BitMask, Node, Fork', Full, Empty, Fork, Halves, open_at, IsAtMost, IsWidestOf, IsReduced, AllPass, with_low_bit}
 use Rattle.vic_sets.proofs.Bits.{half_below, low_and_rest}
 
 -- the numbers with a lowest bit pass where those without it pass another test
@@ -22,18 +22,18 @@ one_half p q u =
     let f : (2 * u + 1) / 2 ≡ u = omega arith in
     rw (e, f) refl
 
--- a reduced node that isn't clear has a number that is shut
-shut_number : (n : Node) → IsReduced n → (n ≡ Clear) ⊎ ((u : ℕ) × (open_at n u ≡ false))
-shut_number Clear r = inl refl
-shut_number Shut r = inr (0, refl)
-shut_number (Fork' p l h) r = inr (at_sides (shut_number l r.0) (shut_number h r.1)) where
-  at_sides : (l ≡ Clear) ⊎ ((u : ℕ) × (open_at l u ≡ false)) → (h ≡ Clear) ⊎ ((u : ℕ) × (open_at h u ≡ false)) → (u : ℕ) × (forked (open_at l) (open_at h) u ≡ false)
+-- a reduced node that isn't full has a number that is closed
+closed_number : (n : Node) → IsReduced n → (n ≡ Full) ⊎ ((u : ℕ) × (open_at n u ≡ false))
+closed_number Full r = inl refl
+closed_number Empty r = inr (0, refl)
+closed_number (Fork' p l h) r = inr (at_sides (closed_number l r.0) (closed_number h r.1)) where
+  at_sides : (l ≡ Full) ⊎ ((u : ℕ) × (open_at l u ≡ false)) → (h ≡ Full) ⊎ ((u : ℕ) × (open_at h u ≡ false)) → (u : ℕ) × (forked (open_at l) (open_at h) u ≡ false)
   at_sides (inr a) b = (2 * a.0 + 0, zero_half (open_at l) (open_at h) a.0 ∙ a.1)
   at_sides (inl a) (inr b) = (2 * b.0 + 1, one_half (open_at l) (open_at h) b.0 ∙ b.1)
   at_sides (inl a) (inl b) = absurd (r.2 (rw (a, b) tt))
 
-fork_shut : (halves : Box Halves Global) → IsReduced (Fork halves) → (u : ℕ) × (open_at (Fork halves) u ≡ false)
-fork_shut halves r = elim (shut_number (Fork halves) r) [ inl a ↦ absurd (cc) | inr b ↦ b ]
+fork_closed : (halves : Box Halves Global) → IsReduced (Fork halves) → (u : ℕ) × (open_at (Fork halves) u ≡ false)
+fork_closed halves r = elim (closed_number (Fork halves) r) [ inl a ↦ absurd (cc) | inr b ↦ b ]
 
 -- a mask that passes in a half passes with its bit
 pass_more : (f p : ℕ → Bool) (bit : ℕ) (m : BitMask) → bit < 2 → IsHalf f bit p → AllPass p m → AllPass f (with_low_bit bit m)
@@ -61,9 +61,9 @@ half_widest halves p q bit m reduced small own other w others = record {
   least = λ n fits h. elim (cases_eq n.len 0) [
     | inl none ↦
         let size : 2 ^ n.len ≡ 1 = ap (λ l. 2 ^ l) none in
-        let shut = fork_shut halves reduced in
-        let passed = h shut.0 (rw size (omega arith)) in
-        absurd (cc (passed, shut.1))
+        let closed = fork_closed halves reduced in
+        let passed = h closed.0 (rw size (omega arith)) in
+        absurd (cc (passed, closed.1))
     | inr some ↦ elim (cases_eq (n.value % 2) bit) [
       | inl e ↦
           let g = w.least (shorter n) (half_below n.value n.len (omega arith) fits) (pass_less f p n (omega arith) (rw e own) h) in

@@ -19,9 +19,9 @@ pub use Rattle.vic_frame.specs.Uids.{IsUid, has}
 pub use Rattle.vic_tree.proofs.BoolLaws.{or_false}
 pub use Rattle.vic_tree.proofs.FirstMasks.{same_mask}
 pub use Rattle.vic_tree.specs.OpenSet.{AllOpen, IsAtMost, IsWidest, SameUids}
-pub use Rattle.vic_sets.specs.Cells.{AreApart, AreCells, IsApart, IsCell, NoHalves, beside, cut_at, holds, in_cells}
+pub use Rattle.vic_sets.specs.Cells.{AreApart, AreCells, IsApart, IsCell, NoHalves, flipped, cut_at, holds, in_cells}
 pub use Rattle.vic_sets.specs.Nodes.{IsFork, IsReduced, height, open_at}
 pub use Rattle.vic_sets.specs.declared.node.Halves.{Halves}
 pub use Rattle.vic_sets.specs.declared.node.Node.{Fork', Node}
-pub use Rattle.vic_sets.specs.declared.node.Node.TheVariants.{Clear, Fork, Shut}
+pub use Rattle.vic_sets.specs.declared.node.Node.TheVariants.{Full, Fork, Empty}
 pub use Rattle.vic_sets.specs.inner.Widest.{AllPass, IsWidestOf, with_low_bit}

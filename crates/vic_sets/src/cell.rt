@@ -3,7 +3,7 @@
 ghost use Rattle.std.specs.Prelude.{◌≡◌, ℕ, ◌-◌, ◌<◌, ◌≤◌, ◌&&◌, false, IfSome, IfNone, if◌then◌else◌};
 ghost use Rattle.vic_frame.specs.Masks.{lies_in};
 ghost use Rattle.vic_frame.specs.MaskLaws.{lower_half, upper_half};
-ghost use Rattle.vic_sets.specs.Cells.{IsCell, holds, cut_at, beside};
+ghost use Rattle.vic_sets.specs.Cells.{IsCell, holds, cut_at, flipped};
 
 use std::marker::Model;
 use vic_frame::{Mask, UID_BITS};
@@ -65,7 +65,7 @@ impl Cell {
     /// The mask that fixes the low `len` bits as this one does, and the next one otherwise.
     pub(crate) fn flipped(&self, len: u8) -> Cell
         requires { len < self.now.len }
-        ensures { result ≡ beside len self.now }
+        ensures { result ≡ flipped len self.now }
     {
         let bit = (self.mask.value() >> len) % 2;
         let low = self.mask.value() % (1 << len);

@@ -7,7 +7,7 @@ mod cell_list;
 mod cells;
 mod mask_tree;
 mod node;
-mod node_queries;
+mod widest;
 
 pub use cell_list::CellList;
 pub use mask_tree::MaskTree;

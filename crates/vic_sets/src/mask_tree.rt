@@ -5,7 +5,7 @@ ghost use Rattle.vic_frame.specs.Masks.{lies_in};
 ghost use Rattle.vic_sets.specs.Nodes.{open_at};
 
 use crate::node::{Node, fill, is_open_at};
-use crate::node_queries::widest_below;
+use crate::widest::widest_below;
 use std::alloc::{AllocError, Global};
 use std::marker::Model;
 use std::mem;
@@ -43,7 +43,7 @@ impl OpenSet for MaskTree {
 
     fn everything(alloc: Global) -> Result<MaskTree, AllocError> {
         Ok(MaskTree {
-            root: Node::Clear,
+            root: Node::Full,
             alloc,
         })
     }
@@ -53,7 +53,7 @@ impl OpenSet for MaskTree {
             return Ok(());
         };
         // if memory is refused, no UID is left
-        let mut root = mem::replace(&mut self.root, Node::Shut);
+        let mut root = mem::replace(&mut self.root, Node::Empty);
         let kept = open_in_mask(self.alloc, &root, &mask, except)?;
         fill(&mut root, self.alloc, mask.len(), mask.value(), false)?;
         for uid in &kept {

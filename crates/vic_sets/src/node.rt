@@ -10,9 +10,9 @@ use std::alloc::{AllocError, Global};
 #[derive(Drop)]
 pub(crate) enum Node {
     /// Every number is open.
-    Clear,
+    Full,
     /// No number is open.
-    Shut,
+    Empty,
     /// The next bit decides in which half the bits above it are looked up.
     Fork(Box<Halves>),
 }
@@ -32,8 +32,8 @@ pub(crate) fn is_open_at(node: &Node, number: u64) -> bool
     ensures { result ≡ open_at node.now number }
 {
     match node {
-        Node::Clear => true,
-        Node::Shut => false,
+        Node::Full => true,
+        Node::Empty => false,
         Node::Fork(halves) => {
             if number % 2 == 0 {
                 is_open_at(&halves.zero, number / 2)
@@ -53,8 +53,8 @@ fn merge(node: &mut Node)
 {
     let leaf = match node {
         Node::Fork(halves) => match (&halves.zero, &halves.one) {
-            (Node::Clear, Node::Clear) => Node::Clear,
-            (Node::Shut, Node::Shut) => Node::Shut,
+            (Node::Full, Node::Full) => Node::Full,
+            (Node::Empty, Node::Empty) => Node::Empty,
             _ => return,
         },
         _ => return,
@@ -71,13 +71,13 @@ fn split(node: &mut Node, alloc: Global) -> Result<(), AllocError>
     ensures height { OnOk result (height node.new ≤ max (height node.old) 1) }
 {
     let halves = match node {
-        Node::Clear => Halves {
-            zero: Node::Clear,
-            one: Node::Clear,
+        Node::Full => Halves {
+            zero: Node::Full,
+            one: Node::Full,
         },
-        Node::Shut => Halves {
-            zero: Node::Shut,
-            one: Node::Shut,
+        Node::Empty => Halves {
+            zero: Node::Empty,
+            one: Node::Empty,
         },
         Node::Fork(_) => return Ok(()),
     };
@@ -85,7 +85,7 @@ fn split(node: &mut Node, alloc: Global) -> Result<(), AllocError>
     Ok(())
 }
 
-/// Opens every number whose low `len` bits are those of `value`, if `opens`, or shuts them all.
+/// Opens every number whose low `len` bits are those of `value`, if `opens`, or closes them all.
 pub(crate) fn fill(
     node: &mut Node,
     alloc: Global,
@@ -100,11 +100,11 @@ pub(crate) fn fill(
         ≡ (if u % 2 ^ len == value % 2 ^ len then opens else open_at node.old u)) }
 {
     if len == 0 {
-        *node = if opens { Node::Clear } else { Node::Shut };
+        *node = if opens { Node::Full } else { Node::Empty };
         return Ok(());
     }
     match (&*node, opens) {
-        (Node::Clear, true) | (Node::Shut, false) => return Ok(()),
+        (Node::Full, true) | (Node::Empty, false) => return Ok(()),
         _ => {}
     }
     split(node, alloc)?;

@@ -1,12 +1,12 @@
-use Rattle.vic_sets.proofs.Words.{◌≡◌, ◌∙◌, refl, Box, Global, Node, Fork', Clear, Shut, Fork, Halves, IsFork, ap, sym, cond, ◌/◌, ◌^◌, ◌%◌, ◌==◌, max, arith, open_at, height}
+use Rattle.vic_sets.proofs.Words.{◌≡◌, ◌∙◌, refl, Box, Global, Node, Fork', Full, Empty, Fork, Halves, IsFork, ap, sym, cond, ◌/◌, ◌^◌, ◌%◌, ◌==◌, max, arith, open_at, height}
 use Rattle.vic_sets.proofs.Bits.{fill_zero, fill_one}
 use Rattle.vic_sets.proofs.node.+fill.Goals as goal
 use Rattle.vic_sets.proofs.node.+fill.Goals.{in-Fork+then-value-eq0+in_ok-fill, in-Fork+else-value-eq0+in_ok-fill-2, in_default-node}
 
 -- what is no fork isn't one
 no_fork : (n : Node) → IsFork n → ((x : Box Halves Global) → n ≡ Fork x → ⊥) → ⊥
-no_fork Clear f h = f
-no_fork Shut f h = f
+no_fork Full f h = f
+no_fork Empty f h = f
 no_fork (Fork' p zero one) f h = h (record { ptr = p.ptr; alloc = p.alloc; value = record { zero = zero; one = one } }) refl
 
 pub returns-clause-height : goal.returns-clause-height

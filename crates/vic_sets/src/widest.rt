@@ -7,14 +7,6 @@ ghost use Rattle.vic_sets.specs.inner.Widest.{IsWidestOf, with_low_bit};
 use crate::node::Node;
 use vic_frame::{Mask, UID_BITS};
 
-/// The mask that fixes one more bit, below the others.
-fn lengthened(mask: &Mask, bit: bool) -> Mask
-    requires { mask.now.len < UID_BITS }
-    ensures { result ≡ with_low_bit (if bit then 1 else 0) mask.now }
-{
-    Mask::of_bits(mask.len() + 1, 2 * mask.value() + u64::from(bit))
-}
-
 /// The mask of least length, then of least value, all of whose numbers are open below a node; none
 /// if no number is.
 pub(crate) fn widest_below(node: &Node) -> Option<Mask>
@@ -25,8 +17,8 @@ pub(crate) fn widest_below(node: &Node) -> Option<Mask>
     ensures none { IfNone result ((u : ℕ) → open_at node.now u ≡ false) }
 {
     match node {
-        Node::Clear => Some(Mask::default()),
-        Node::Shut => None,
+        Node::Full => Some(Mask::default()),
+        Node::Empty => None,
         Node::Fork(halves) => match (widest_below(&halves.zero), widest_below(&halves.one)) {
             (None, None) => None,
             (Some(zero), None) => Some(lengthened(&zero, false)),
@@ -36,4 +28,12 @@ pub(crate) fn widest_below(node: &Node) -> Option<Mask>
             }
         },
     }
+}
+
+/// The mask that fixes one more bit, below the others.
+fn lengthened(mask: &Mask, bit: bool) -> Mask
+    requires { mask.now.len < UID_BITS }
+    ensures { result ≡ with_low_bit (if bit then 1 else 0) mask.now }
+{
+    Mask::of_bits(mask.len() + 1, 2 * mask.value() + u64::from(bit))
 }

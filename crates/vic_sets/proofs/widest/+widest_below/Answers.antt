@@ -1,6 +1,6 @@
 use Rattle.vic_sets.proofs.Words.{◌≡◌, ℕ, ◌⊎◌, inl, inr, false, arith, rules, open_at, IsAtMost, IsWidestOf, with_low_bit}
 use Rattle.vic_sets.proofs.WidestLaws.{half_widest, none_passes, one_half, zero_half}
-use Rattle.vic_sets.proofs.node_queries.+widest_below.Goals as goal
+use Rattle.vic_sets.proofs.widest.+widest_below.Goals as goal
 
 pub returns-in-None-Some-clause-found : goal.returns-in-None-Some-clause-found
 returns-in-None-Some-clause-found t c =
