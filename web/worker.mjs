@@ -36,7 +36,7 @@ function why(error, files = []) {
 async function warm(sample) {
   const library = await loading, rounds = new TextDecoder().decode(sample).replace(/^[vU].*\n/gm, "");
   const long = new TextEncoder().encode(`vicinity-log 3\n${`F\n${rounds}`.repeat(FIELDS)}`);
-  for (let left = WARMING; library && left && !isAsked; left--) tell(await judge(library, long, ""), long);
+  for (let left = WARMING; library && left && !isAsked; left--) tell(await judge(library, long, "", false, ""), long);
 }
 
 onmessage = async ({ data: { id, text, name, isKept, changed, files, ...data } }) => {
@@ -49,7 +49,7 @@ onmessage = async ({ data: { id, text, name, isKept, changed, files, ...data } }
     isAsked = true;
     const library = await loading;
     if (!library) return postMessage({ id, error: SENTENCES.failures.none });
-    if (text) postMessage({ id, told: tell({ ...await judge(library, text, name, isKept), changed }, text) });
+    if (text) postMessage({ id, told: tell({ ...await judge(library, text, name, isKept, ""), changed }, text) });
     if (files) postMessage({ id, collection: await judgeAll(library, files) });
   } catch (error) {
     postMessage({ id, ...why(error, files) });
