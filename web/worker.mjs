@@ -32,11 +32,14 @@ function why(error, files = []) {
   return { error: SENTENCES.failures.trap };
 }
 
-/** @param {Uint8Array} sample */
+/**
+ * Its sums come from another thread, so that between two judgings it can be asked.
+ * @param {Uint8Array} sample
+ */
 async function warm(sample) {
   const library = await loading, rounds = new TextDecoder().decode(sample).replace(/^[vU].*\n/gm, "");
   const long = new TextEncoder().encode(`vicinity-log 3\n${`F\n${rounds}`.repeat(FIELDS)}`);
-  for (let left = WARMING; library && left && !isAsked; left--) tell(await judge(library, long, "", false, ""), long);
+  for (let left = WARMING; library && left && !isAsked; left--) tell(await judge(library, long, ""), long);
 }
 
 onmessage = async ({ data: { id, text, name, isKept, changed, files, ...data } }) => {
