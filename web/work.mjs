@@ -1,4 +1,5 @@
 /** Judging, in a worker that can be stopped. */
+import { sumOf } from "./judge/files.mjs";
 import { SENTENCES } from "./say/sentences.mjs";
 
 /** @typedef {import("./judge/told.mjs").Told} Told */
@@ -45,14 +46,20 @@ export class Work {
   get isBusy() { return this.#waiting.size > 0; }
 
   /**
-   * @param {object} what
+   * A text is copied here, and handed over; and its sum is worked out here, while the worker has enough to do.
+   * @param {{text?: Uint8Array, [member: string]: unknown}} what
    * @returns {Promise<Done>}
    */
-  ask(what) {
+  async ask(what) {
     const id = ++this.#requested, asked = new Promise((answer) => { this.#waiting.set(id, answer); });
     if (!this.#worker) this.#begin();
-    try { /** @type {Worker} */ (this.#worker).postMessage({ id, ...what }); } catch { this.stop(SENTENCES.failures.none); }
-    return asked;
+    try {
+      const text = what.text?.slice();
+      /** @type {Worker} */ (this.#worker).postMessage({ id, ...what, text }, text ? [text.buffer] : []);
+    } catch { this.stop(SENTENCES.failures.none); }
+    const sum = what.text ? await sumOf(what.text).catch(() => "") : "", done = await asked;
+    if (done.told) done.told.object.sha256 = sum;
+    return done;
   }
 
   /**
@@ -61,8 +68,7 @@ export class Work {
    */
   stop(error = STOPPED) {
     this.#worker?.terminate();
-    if (error === STOPPED) this.#begin();
-    else this.#worker = null;
+    if (error === STOPPED) this.#begin(); else this.#worker = null;
     for (const answer of this.#waiting.values()) answer({ error });
     this.#waiting.clear();
   }

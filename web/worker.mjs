@@ -32,7 +32,10 @@ function why(error, files = []) {
   return { error: SENTENCES.failures.trap };
 }
 
-/** @param {Uint8Array} sample */
+/**
+ * Its sums come from another thread, so that between two judgings it can be asked.
+ * @param {Uint8Array} sample
+ */
 async function warm(sample) {
   const library = await loading, rounds = new TextDecoder().decode(sample).replace(/^[vU].*\n/gm, "");
   const long = new TextEncoder().encode(`vicinity-log 3\n${`F\n${rounds}`.repeat(FIELDS)}`);
@@ -49,7 +52,7 @@ onmessage = async ({ data: { id, text, name, isKept, changed, files, ...data } }
     isAsked = true;
     const library = await loading;
     if (!library) return postMessage({ id, error: SENTENCES.failures.none });
-    if (text) postMessage({ id, told: tell({ ...await judge(library, text, name, isKept), changed }, text) });
+    if (text) postMessage({ id, told: tell({ ...await judge(library, text, name, isKept, ""), changed }, text) });
     if (files) postMessage({ id, collection: await judgeAll(library, files) });
   } catch (error) {
     postMessage({ id, ...why(error, files) });

@@ -2,8 +2,9 @@
  * grows.
  *
  * The sizes are 32, 48, 64, 96, 128 and so on. Before each block stand 16 bytes with the number of
- * its list. A block that is given back is kept for the next one of its size, and isn't joined to
- * others. */
+ * its list. A block that is given back is kept for the next one of its size, or of down to a quarter
+ * of it, and isn't joined to others: memory that was used before is there already, and the rest only
+ * when it is first touched, which takes longer than to fill it. */
 typedef __SIZE_TYPE__ size_t;
 typedef __UINT64_TYPE__ uint64_t;
 typedef __UINTPTR_TYPE__ uintptr_t;
@@ -13,6 +14,7 @@ enum {
     LEAST_LOG = 5,   /* the least block has two to the power of this many bytes */
     MOST_LOG = 40,   /* none is asked for with more than two to this power: no memory has as much */
     LISTS = 2 * (MOST_LOG - LEAST_LOG) + 1,
+    NEAR = 4,        /* how many lists further the blocks have four times the size */
     PAGE = 65536
 };
 
@@ -71,14 +73,16 @@ static void *take(size_t bytes)
     if (bytes > (size_t)1 << MOST_LOG)
         return 0;
     uint64_t list = list_for(bytes);
-    void *block = lists[list];
-    if (block) {
-        lists[list] = *(void **)block;
-        return block;
+    for (uint64_t near = list; near <= list + NEAR && near < LISTS; near++) {
+        void *block = lists[near];
+        if (block) {
+            lists[near] = *(void **)block;
+            return block;
+        }
     }
     if (!grow(HEAD + size_of(list)))
         return 0;
-    block = (void *)(unused + HEAD);
+    void *block = (void *)(unused + HEAD);
     unused += HEAD + size_of(list);
     *head_of(block) = list;
     return block;

@@ -44,6 +44,13 @@ export function utf8Of(text, isStart = false) {
  */
 export const isBroken = ({ text }) => codingOf(text) !== "" && utf8Of(text) === text;
 
+/**
+ * The SHA-256 of a file; empty where it can't be had.
+ * @param {Uint8Array} text
+ */
+export const sumOf = async (text) => !globalThis.crypto?.subtle ? ""
+  : Array.from(new Uint8Array(await crypto.subtle.digest("SHA-256", text)), (byte) => byte.toString(16).padStart(2, "0")).join("");
+
 /** @param {Given} file */
 export const startOf = ({ text }) => new TextDecoder("utf-8", { ignoreBOM: true }).decode(utf8Of(text.subarray(0, MOST_SEEN), true));
 

@@ -1,6 +1,6 @@
 /** Objects of logs and of collections: what the library writes of them, and what only who opens them knows. */
-import { hasUids, isPlaces, kindOf, stemOf, surveyedIn, utf8Of } from "./files.mjs";
-import { hasUid, hex, maskOf } from "./frames.mjs";
+import { hasUids, isPlaces, kindOf, stemOf, sumOf, surveyedIn, utf8Of } from "./files.mjs";
+import { hasUid, maskOf } from "./frames.mjs";
 import { madeOnce } from "./groups.mjs";
 import { LF } from "./log.mjs";
 
@@ -22,11 +22,11 @@ const LISTED = /^U (\w{16})/gm;
  * @param {Uint8Array} text
  * @param {string} name
  * @param {boolean} [isKept] whether its text is kept with it
+ * @param {string | Promise<string>} [sum] of the text, which another thread works out meanwhile
  * @returns {Promise<LogObject>}
  */
-export async function judge(library, text, name, isKept = false) {
-  // which another thread works out meanwhile
-  const sum = sumOf(text), said = JSON.parse(DECODED.decode(library.run("json", [{ text }]).written));
+export async function judge(library, text, name, isKept = false, sum = sumOf(text)) {
+  const said = JSON.parse(DECODED.decode(library.run("json", [{ text }]).written));
   const kept = !isKept ? "" : DECODED.decode(said.fault ? untilLine(text, said.line) : text);
   return { ...said, version: versionOf(library.version), file: name, sha256: await sum, text: kept };
 }
@@ -113,9 +113,3 @@ function untilLine(text, line) {
 
 /** @param {number} number as the library gives it */
 const versionOf = (number) => [Math.floor(number / 10000), Math.floor(number / 100) % 100, number % 100].join(".");
-
-/** @param {Uint8Array} text */
-async function sumOf(text) {
-  if (!globalThis.crypto?.subtle) return "";
-  return Array.from(new Uint8Array(await crypto.subtle.digest("SHA-256", text)), (byte) => hex(byte, 2)).join("").toLowerCase();
-}

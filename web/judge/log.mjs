@@ -35,10 +35,10 @@ export class Log {
   /** @param {Uint8Array} text */
   constructor(text) {
     this.text = text;
-    const starts = new Uint32Array(Math.min(text.length, MOST_LINES) + 2);
+    const { length } = text, starts = new Uint32Array(Math.min(length, MOST_LINES) + 2);
     let last = 0;
-    for (let at = 0; at < text.length && last < MOST_LINES; at++) if (text[at] === LF) starts[++last] = at + 1;
-    if (starts[last] !== text.length) starts[++last] = text.length + 1;
+    for (let at = 0; at < length && last < MOST_LINES;) if (text[at++] === LF) starts[++last] = at;
+    if (starts[last] !== length) starts[++last] = length + 1;
     this.#starts = starts.subarray(0, last + 1);
     this.#rows = this.#count();
   }
