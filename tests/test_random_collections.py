@@ -12,7 +12,7 @@ import pytest
 from helpers import collections, surveys
 from helpers.collection_rows import files_of, is_right, reader, rows
 from helpers.random_collections import case_of, changed_texts, seed_texts
-from helpers.worlds import is_complete, world_of
+from helpers.worlds import is_complete, place_of, world_of
 
 # How many random collections there are, and how many changed texts of surveys, in how many parts.
 NUMBER, CHANGED, PARTS, SEED = 2000, 20_000, 5, 15699
@@ -174,7 +174,7 @@ def test_complete_by_trying_all_families(program, tmp_path, logs, part):
         answer = answer_in(asked.run("json-collection", *world.case.words).out).split()[0]
         places = {place for _, place, away in world.items if place and not away}
         named = {place for _, place, _ in world.items}
-        logs_of = {name[-5] for name in world.lines}
+        logs_of = {place_of(name) for name in world.lines}
         assert (answer == b"complete") == (
             is_complete(world) and places <= logs_of <= named), (world.case, answer)
         said[answer] += 1

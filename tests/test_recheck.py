@@ -119,7 +119,7 @@ FAULTS = {
     "a UID without E0 is a tag": ("elif uid >> 56 == 0xE0:", "else:"),
     "listed tags stay Quiet over F": ("field.skip.clear()", "pass"),
     "others stay Quiet over F": ("field.cycles.append(now)", "pass"),
-    "others that are Quiet are ruled out": ("> self.cycles[cycle]", "> 0"),
+    "others that are Quiet are ruled out": ("> ready_at", "> 0"),
     "a collision may be of one tag": ("len(tags) >= 2", "len(tags) >= 1"),
     "a collision forces two of three tags": ("len(found) < 3", "len(found) < 2"),
     "a garbled slot says nothing": ("len(tags) >= 1", "True"),

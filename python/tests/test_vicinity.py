@@ -29,6 +29,19 @@ class Runs(unittest.TestCase):
             with self.assertRaisesRegex(TypeError, "whether its status is 0"):
                 bool(vicinity.run("check", text))
 
+    def test_names_are_in_the_order_of_the_texts(self):
+        """What has no order, or another one, would give a text the name of another."""
+        texts = (b"uid\n", b"vicinity-log 1\n")
+        for names in ({"A.log", "a.csv"}, {"a.csv": 1, "A.log": 2}, "aA", ["a.csv"],
+                      ["a.csv", "A\n.log"], ["a.csv\nA.log"], iter(["a.csv", "A.log"])):
+            with self.assertRaisesRegex(ValueError, "one name for each text"):
+                vicinity.run("collection", *texts, names=names)
+        for names in ([["a.csv"], "A.log"], [b"a.csv", "A.log"], (None, "A.log")):
+            with self.assertRaises(TypeError):
+                vicinity.run("collection", *texts, names=names)
+        self.assertEqual(vicinity.run("collection", *texts, names=("a.csv", "A.log")),
+                         vicinity.run("collection", *texts, names=["a.csv", "A.log"]))
+
 
 class Frames(unittest.TestCase):
     """What frames say, with the values of docs/FRAMES.md
@@ -201,6 +214,26 @@ class Calls(unittest.TestCase):
             self.assertEqual(str(vicinity.check_listed(silent, uids)), f"absent {A:016X}")
         with self.assertRaises(TypeError):
             vicinity.check_listed(silent, None)
+
+    def test_what_is_used_up_is_no_list_whatever_its_type(self):
+        """As a progress bar around a generator, which is passed through once."""
+        class Once:
+            def __init__(self, uids, length):
+                self.uids, self.length = iter(uids), length
+
+            def __iter__(self):
+                return self.uids
+
+        class Counted(Once):
+            def __len__(self):
+                return self.length
+
+        silent = log(ALL + b"S\n")
+        for call in (vicinity.check_listed, vicinity.margin_listed):
+            for uids in (Once([A], 1), Once([], 1), Counted([], 1), Counted([A], 0)):
+                with self.assertRaisesRegex(TypeError, "UIDs are a list, not (Once|Counted),"):
+                    call(silent, uids)
+        self.assertEqual(str(vicinity.check_listed(silent, Counted([A], 1))), f"absent {A:016X}")
 
     def test_report(self):
         for lines, text in (

@@ -4,7 +4,7 @@ import struct
 from array import array
 from functools import partial
 from html import escape
-from typing import Any, Collection, Iterator, Sequence
+from typing import Any, Collection, Sequence, Sized
 
 from ._answers import (Answer, Explanation, Fault, Finding, FindingKind, Kind, Margin, Mask, Report,
                        Simulation, Weakest)
@@ -23,9 +23,9 @@ def _numbers(uids: Collection[int]) -> tuple[ctypes.Array[ctypes.c_uint64], int]
     64 bits."""
     if isinstance(uids, (str, bytes, bytearray, memoryview)) or hasattr(uids, "read"):
         raise TypeError(f"UIDs are numbers, not {type(uids).__name__}: parse_uid reads one")
-    if isinstance(uids, Iterator):
+    numbers = array("Q", uids if isinstance(uids, Sized) else ())
+    if not isinstance(uids, Sized) or len(uids) != len(numbers):
         raise TypeError(f"UIDs are a list, not {type(uids).__name__}, which may be used up")
-    numbers = array("Q", uids)
     place = ctypes.c_uint64 * len(numbers)
     # what an empty array points to isn't aligned
     return place.from_buffer(numbers) if numbers else place(), len(numbers)
@@ -68,8 +68,8 @@ def check_listed(text: BytesLike, uids: Collection[int]) -> Answer:
     The last line of the text may lack its LF.
 
     Raises what `check` raises, TypeError if the UIDs are an iterator, as a generator, a map or a
-    csv.reader (one that is used up would be an empty list), and OverflowError if one exceeds 64
-    bits."""
+    csv.reader (one that is used up would be an empty list), or are fewer or more than their `len`,
+    and OverflowError if one exceeds 64 bits."""
     return _answer(_call("check_listed", [*sized(text), *_numbers(uids)]))
 
 

@@ -26,9 +26,10 @@ class Written(NamedTuple):
 
 def _names(names: Sequence[str], count: int) -> bytes:
     """A line for each name; without any, empty ones."""
-    if len(names) not in (0, count) or any("\n" in name for name in names):
-        raise ValueError("there is one name for each text, without LF")
-    return "".join(f"{name}\n" for name in names or [""] * count).encode()
+    text = "\n".join([*(names or [""] * count), ""])
+    if type(names) not in (list, tuple) or len(names) not in (0, count) or text.count("\n") > count:
+        raise ValueError("there is one name for each text, without LF, in a list or a tuple")
+    return text.encode()
 
 
 def run(command: str, *texts: BytesLike, names: Sequence[str] = ()) -> Written:
@@ -36,8 +37,9 @@ def run(command: str, *texts: BytesLike, names: Sequence[str] = ()) -> Written:
     `names` are those of the texts, in their order, as where the answer names files.
 
     Raises ValueError if the program has no such command, the texts aren't what it takes, or the
-    names aren't as many, or have LF; TypeError if a text isn't bytes or similar, MemoryError if
-    memory is refused, and OSError if the shared library can't be loaded."""
+    names aren't a list or tuple of as many without LF; TypeError if a text isn't bytes or similar
+    or a name isn't str, MemoryError if memory is refused, and OSError if the shared library can't
+    be loaded."""
     if command not in COMMANDS:
         raise ValueError(f"no command of the program: {command!r}")
     copies = [bytes_of(text) for text in texts]
@@ -47,8 +49,7 @@ def run(command: str, *texts: BytesLike, names: Sequence[str] = ()) -> Written:
     call = partial(library().vicinity_run, COMMANDS.index(command) + 1, lines, len(lines), joined,
                    len(joined), lengths, len(copies))
     status, room, count = filled(call, ctypes.c_uint8, places)
-    if status == NO_ANSWER and count:
-        raise ValueError(f"these texts aren't what {command} takes")
     if status == NO_ANSWER:
-        raise MemoryError("vicinity: out of memory")
+        raise ValueError(f"these texts aren't what {command} takes") if count else \
+            MemoryError("vicinity: out of memory")
     return Written(bytes(memoryview(room)[:count]), status)

@@ -52,6 +52,7 @@ class NoAnswer(Exception):
 # Tables.
 
 def catalogue_of(text, rows):
+    """A catalogue by its text, and by the rows that `tables.read` finds in it."""
     lines = tables.lines_of(text)
     _, separator, names = tables.head(lines[0].decode())
 
@@ -78,7 +79,7 @@ def list_of(name, text):
 # Masks.
 
 def carved(masks, uids):
-    """Masks that are apart and have the same UIDs as these, but for some."""
+    """Masks that are apart and have the UIDs of these masks, but for those of `uids`."""
     found = []
     for length, value in sorted(set(masks)):
         if not any(lies_in(value, *other) for other in found):
@@ -87,6 +88,7 @@ def carved(masks, uids):
 
 
 def without(mask, uids):
+    """The greatest masks that have the UIDs of a mask but for these."""
     length, value = mask
     inside = [uid for uid in uids if lies_in(uid, length, value)]
     if not inside:
@@ -105,6 +107,9 @@ def found_by(name):
 
 
 class Collection:
+    """A catalogue, the rows of a table of places or none, and what each log says. `keys` has by
+    what name the place of each log was found, `states` the state of each item."""
+
     def __init__(self, catalogue, rows, logs):
         self.catalogue, self.rows, self.logs = catalogue, rows, logs
         places = {item.place: item.place for item in catalogue.items if item.place is not None}
@@ -136,11 +141,13 @@ class Collection:
         return [place for place in dict.fromkeys(named) if place not in self.places]
 
     def left_over(self, at):
+        """Whether no place is known of a log, where places are asked for."""
         return self.catalogue.asks_for_places and self.places[at] is None
 
     # What the logs say of a UID.
 
     def certain_in(self, uid):
+        """The logs in which it is certain, by their numbers."""
         return [at for at, log in enumerate(self.logs) if uid in log.certain]
 
     def may_be_in(self, uid):
@@ -150,6 +157,7 @@ class Collection:
                     lies_in(uid, *mask) for mask in log.open))]
 
     def state(self, item):
+        """The first state that applies, in the order of `STATES`."""
         certain = self.certain_in(item.uid)
         applies = (item.uid is None, item.away and certain,
                    item.place is not None and any(self.places[at] == item.place for at in certain),
@@ -158,6 +166,7 @@ class Collection:
         return STATES[[*map(bool, applies)].index(True)]
 
     def unsettled(self):
+        """The greatest mask whose UIDs may be somewhere, are of no item and certain in no log."""
         masks = [mask for log in self.logs
                  for mask in (log.open if log.is_possible else [(0, 0)])]
         left = greatest(carved(masks, {*self.uids, *self.everywhere}))
@@ -170,6 +179,7 @@ class Collection:
     # The answer.
 
     def of_state(self, state):
+        """The UIDs of a state with their items, the smallest first."""
         found = [(item.uid, item) for item, one in zip(self.catalogue.items, self.states)
                  if one == state]
         return sorted(found, key=lambda one: one[0])
@@ -177,7 +187,7 @@ class Collection:
     def complete(self):
         return f"complete {self.states.count('in place') + self.states.count('there')}"
 
-    def bad(self):
+    def of_bad_log(self):
         """The answer and the status of the first log that isn't possible, if there is one."""
         for log in self.logs:
             if not log.is_possible:
@@ -207,6 +217,7 @@ class Collection:
                 yield (f"left over {log.name}", [f"left over {log.name}"])
 
     def of_items(self, kind):
+        """The findings of a kind that are of items, as `findings` has them."""
         for uid, item in self.of_state(FINDINGS[kind]):
             line = f"{kind} {uid:016X}"
             logs = self.certain_in(uid) or self.may_be_in(uid)
@@ -217,34 +228,37 @@ class Collection:
     def answer(self):
         """Its line and its status."""
         found = next(self.findings(), None)
-        return self.bad() or ((found[0], 1) if found else (self.complete(), 0))
+        return self.of_bad_log() or ((found[0], 1) if found else (self.complete(), 0))
 
     # What is written.
 
     def lines(self):
+        """What `reconcile` writes."""
         answer, status = self.answer()
         if status != 1:
             return [answer]
         return [line for _, lines in self.findings() for line in lines]
 
     def table(self):
+        """What `collection` writes: the catalogue's lines, each with three cells behind it."""
         catalogue, separator = self.catalogue, self.catalogue.separator
         rows = [(catalogue.head, ["vicinity state", "vicinity certain in", "vicinity may be in"])]
         for item, state in zip(catalogue.items, self.states):
-            rows.append((item.raw, self.three(state, item.uid)))
+            rows.append((item.raw, self.three_cells(state, item.uid)))
         column = [tables.word(name) for name in catalogue.columns].index("uid")
         for uid in self.unexpected:
             cells = [f"?{uid:016X}" if at == column else "" for at in range(len(catalogue.columns))]
-            rows.append((separator.join(cells).encode(), self.three("unexpected", uid)))
+            rows.append((separator.join(cells).encode(), self.three_cells("unexpected", uid)))
         return b"".join(separator.encode().join(
             [front, *(quoted(cell, separator) for cell in cells)]) + catalogue.end
             for front, cells in rows)
 
-    def three(self, state, uid):
+    def three_cells(self, state, uid):
         return [state, *("; ".join(self.logs[at].name for at in logs)
                          for logs in (self.certain_in(uid), self.may_be_in(uid)))]
 
     def object(self):
+        """What `json-collection` writes."""
         answer, status = self.answer()
         told = {"schema": 2, "status": status, "answer": answer}
         if status == 0 and self.logs:
@@ -290,6 +304,7 @@ def mask_object(mask):
 
 
 def quoted(cell, separator):
+    """A cell as it is written, in quotes where it has to be."""
     if separator in cell or '"' in cell or cell != tables.trimmed(cell):
         cell = '"%s"' % cell.replace('"', '""')
     return cell.encode()
@@ -311,12 +326,14 @@ def json_of(value):
 # Its files.
 
 def kind_of(text):
+    """What a file is, by how its text begins."""
     if text.startswith(b"vicinity-survey "):
         return "surveys"
     return "log" if not text or text.removeprefix(MARK).startswith(b"vicinity-") else "table"
 
 
 def read_surveys(name, text):
+    """The surveys of a file."""
     found = surveys.read(text)
     if isinstance(found, int):
         raise Refused(found, name, "Survey")
@@ -370,12 +387,14 @@ def run(command, words, read, survey=surveys.of):
 
 
 def named(words):
+    """The words, if there are some and each can be a name."""
     if not words or not all(map(surveys.is_name, words)):
         raise NoAnswer("usage")
     return words
 
 
 def written(command, words, read, survey):
+    """As `run`, but for what ends it."""
     if command == "reconcile":
         first = read((words or named(words))[0])
         if not first or first.startswith(b"vicinity-"):

@@ -72,6 +72,7 @@ class Families:
         return possible - certain
 
     def answer(self):
+        """The lines of `reconcile`; `?` where the number of a line isn't looked at."""
         for name, known in zip(NAMES, self.each):
             if known.impossible:
                 return [f"impossible at line {known.impossible} of {name}"]
@@ -81,6 +82,7 @@ class Families:
         return list(self.findings(possible, certain, each)) or [f"complete {len(self.expected)}"]
 
     def findings(self, possible, certain, each):
+        """The lines of the findings, by the UIDs somewhere and by those of each log."""
         for uid in sorted(set(self.expected) - possible):
             yield f"absent {uid:016X}"
         for uid in sorted(certain - set(self.expected)):

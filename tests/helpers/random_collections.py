@@ -89,6 +89,7 @@ def uid_cell(rng, uid):
 
 
 def text_cell(rng, cell, separator):
+    """A cell, in quotes where it has to be and now and then where it hasn't."""
     if separator in cell or '"' in cell or rng.random() < 0.1:
         return '"%s"' % cell.replace('"', '""')
     return cell
@@ -108,6 +109,7 @@ def as_table(rng, names, rows):
 
 
 def damaged(rng, text):
+    """The text with some bytes lost, doubled or instead of others."""
     at, size = rng.randrange(len(text)), rng.choice((1, 1, rng.randrange(30)))
     return text[:at] + rng.choice((b"", rng.choice(DAMAGE), text[at:at + size] * 2)) + text[
         at + size:]
@@ -154,6 +156,8 @@ def place_names(rng, names, errors):
 # Collections.
 
 def case_of(rng):
+    """Up to four logs, a catalogue `K` of what is in their fields and sometimes a table of places
+    `P`; and words that mostly name each of them once."""
     uids, errors = eight_uids(rng), rng.choice((0, 0.1, 0.3, 0.6))
     names = rng.sample(NAMES[:6] if errors > 0.3 else NAMES, rng.choice((0, 1, 2, 3, 3, 4, 4)))
     fields = {name: {uid for uid in uids if rng.random() < 0.35} for name in names}

@@ -19,12 +19,14 @@ def is_reply(line, uid):
 
 
 def lacks_reply(slot, uid):
+    """Whether no tag of this UID is heard in a slot, where each that answers would be."""
     if isinstance(slot.line, Reply):
         return slot.line.uid != uid and not slot.line.captured
     return slot.line == SILENT
 
 
 def rules_out(slot, uid):
+    """Whether a slot tells that no tag has this UID."""
     return lacks_reply(slot, uid) and answers(slot, uid)
 
 
@@ -50,6 +52,8 @@ class Parts:
         self.answering = {slot: self.who_answers(slot) for slot in slots}
 
     def divide(self, masks, length, value):
+        """Adds the parts of one mask, so that each of these masks is some of them; and which parts
+        it has, to `spans`."""
         start = len(self.masks)
         longer = [mask for mask in masks if mask[0] > length]
         if longer:
@@ -85,12 +89,14 @@ class Parts:
         return fits(slot.line, self.answering[slot] & left, its_own)
 
     def left_by(self, slots):
+        """The parts that none of the slots rules out."""
         left = self.all
         for slot in slots:
             left &= ~self.shut_out(slot)
         return left
 
     def can_be_true(self, slots):
+        """Whether each slot is true if all UIDs that are left are there."""
         left = self.left_by(slots)
         return all(self.is_met(slot, left) for slot in slots)
 
@@ -153,6 +159,7 @@ class Report:
         return next(self.choices())[0]
 
     def given(self):
+        """The first right report."""
         return [choice[0] for choice in self.choices()]
 
     def wrong(self, given):
@@ -171,6 +178,7 @@ class Report:
         yield from found
 
     def findings(self):
+        """The lines for a possible log, if there are some; of each all that are right."""
         for uid in self.absent():
             yield [f"absent {uid:016X}"]
             yield self.by(self.lines_against(uid)[:1])
@@ -214,6 +222,7 @@ class Report:
         return open_lines(masks)
 
     def lines_against(self, uid):
+        """The slots that rule a UID out."""
         return [slot.number for slot in self.slots if rules_out(slot, uid)]
 
     def lines_for(self, uid):
@@ -233,11 +242,13 @@ class Report:
     # What contradicts itself in an impossible log.
 
     def impossible(self):
+        """The lines for an impossible log."""
         yield [f"impossible at line {self.number}"]
         yield from ([line] for line in self.by(self.conflict()))
         yield from ([f"silenced by line {number}"] for number in self.silencers()[-1:])
 
     def last(self):
+        """The first slot that can't be true."""
         return next(slot for slot in self.slots if slot.number == self.number)
 
     def silencers(self):
@@ -277,6 +288,7 @@ class Report:
         return [slot.number for slot in kept]
 
     def wrong_conflict(self, given):
+        """Why some lines aren't a conflict of which none can be left out, if so."""
         slots = [slot for slot in self.slots if f"by line {slot.number}" in given]
         if given != [f"impossible at line {self.number}"] + self.by(slot.number for slot in slots):
             return f"{given}: not slots in their order"

@@ -111,6 +111,7 @@ def mask_words(mask):
 
 
 def survey_lines(survey):
+    """The lines of a survey, without the one that ends them."""
     yield f"vicinity-survey 1 {survey.name}"
     yield survey.field
     if survey.is_possible:
@@ -165,6 +166,7 @@ class Reader:
         return found
 
     def must(self, *how):
+        """What a line says, which has to be there."""
         found = self.take(*how)
         if found is None:
             raise Fault(self.at + 1)
@@ -178,6 +180,7 @@ class Reader:
         return found
 
     def behind(self, found, one):
+        """A value, if it is greater than those before it."""
         return one if one and (not found or found[-1][0] < one[0]) else None
 
     def survey(self):
@@ -203,6 +206,7 @@ class Reader:
         return field.decode() if not digits or number(digits, MAX_LINE, 1) else None
 
     def possible(self):
+        """What the lines of a possible field say, in the order of a `Survey`."""
         answers = self.must(rb"answers " + NUMBER, self.number)
         certain = self.each(rb"certain (E0[0-9A-F]{14}) by line " + NUMBER, self.certain)
         masks = self.each(rb"open " + MASK, self.open)
@@ -228,6 +232,7 @@ class Reader:
         return () if length is None else mask_read(length, digits)
 
     def end(self, said):
+        """Whether a line's number and CRC are those of the survey that it ends."""
         lines = b"".join(line + b"\n" for line in self.lines[self.start:self.at])
         crc = int.from_bytes(with_crc(lines)[-2:], "little")
         return said == b"%d %04X" % (self.at - self.start + 1, crc) or None

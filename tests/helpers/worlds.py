@@ -37,9 +37,16 @@ def world_of(rng):
     return World(uids, lines, items, Case(files, ["K", *names]))
 
 
+def place_of(name):
+    """The place of a log: its letter, which is before `.log`."""
+    return name[-5]
+
+
 def item_of(rng, uid, where, names, errors):
+    """An item whose tag is in the fields of `where`, some of the logs of these names: mostly of one
+    of their places, and mostly away if there are none."""
     name = rng.choice(names if rng.random() < errors or not where else where)
-    place = rng.choice((name[-5], name[-5], name[-5], None))
+    place = rng.choice((*[place_of(name)] * 3, None))
     return uid, place, rng.random() < (errors / 2 if where else 0.8)
 
 
@@ -61,7 +68,7 @@ def is_complete(world):
         if set().union(*fields.values()) != wanted:
             return False
         for uid, place, away in world.items:
-            logs = [name for name in fields if place in (None, name[-5])]
+            logs = [name for name in fields if place in (None, place_of(name))]
             if not away and not any(uid in fields[name] for name in logs):
                 return False
     return tried > 0

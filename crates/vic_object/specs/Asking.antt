@@ -64,15 +64,15 @@ has_collided_below es m (suc k) =
 
 -- ---- what asks for an open mask
 
--- what `asks` has for each of the first k slots of sixteen of a mask, one after the other
+-- what `asks` has for each of the first k of the sixteen slots of a mask, in their order
 unfoldable pub of_slots : (BitMask → List Request) → BitMask → ℕ → List Request
 of_slots asks m zero = []
 of_slots asks m (suc k) = of_slots asks m k ++ asks (slot_of_sixteen m k)
 
--- what asks for a mask, which is divided into the masks of sixteen slots, and these again, so often
--- at most. If tags collided in one of the sixteen: what asks for each of them. Else one request: of
--- sixteen slots for the mask of all tags, and where tags collided in the mask or within it; of one
--- slot for any other
+-- what asks for a mask, n levels deep at most. If tags collided in one of its sixteen slots, they
+-- would collide there again: each of the sixteen is asked for by itself, a level deeper. Else it is
+-- one request: of sixteen slots, if the mask is that of all tags, or tags collided in it or within
+-- it; of one slot, if not
 abbrev pub asks_in : List Entry → ℕ → ℕ → BitMask → List Request
 asks_in es zero link m = []
 asks_in es (suc n) link m =

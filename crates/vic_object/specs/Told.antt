@@ -38,8 +38,8 @@ IsWeakestIfComplete es (Complete count) None = ⊥
 IsWeakestIfComplete es v (Some w) = ⊥
 IsWeakestIfComplete es v None = ⊤
 
--- what other lines tell, where those of the log have this verdict: their verdict, whether it is the
--- same, their margin, and whether each UID that they leave possible is certain in the log
+-- what other lines tell of a log whose verdict is v: their verdict, whether that is v too, their
+-- margin, and whether each UID that they leave possible is certain in the log
 pub record IsToldBy (lines others : List LogLine) (v : Verdict) (r : CautiousReading) : Type 0 where
   pub verdict : IsVerdict others r.verdict
   pub holds : (r.holds ≡ true) ↔ (r.verdict ≡ v)
@@ -47,7 +47,7 @@ pub record IsToldBy (lines others : List LogLine) (v : Verdict) (r : CautiousRea
   pub settled : (r.settled ≡ true)
       ↔ ((u : ℕ) → IsPossibleUid (entries others) u → IsCertainUid (entries lines) u)
 
--- the same of these entries on the lines of the log
+-- that, of lines with these entries and with the numbers of the log's lines
 pub record IsCautiousReading (lines : List LogLine) (es : List Entry) (v : Verdict)
     (r : CautiousReading) : Type 0 where
   pub others : List LogLine

@@ -18,25 +18,29 @@ pub(crate) fn push_verdict(text: &mut Vec<u8>, verdict: &Verdict) -> Result<(), 
 {
     match *verdict {
         Verdict::Complete { count } => {
-            push_number(
+            push_words_number(
                 text,
                 b"\"status\":0,\"kind\":\"complete\",\"count\":",
                 count,
             )
         }
-        Verdict::Absent(uid) => push_named(text, b"\"status\":1,\"kind\":\"absent\",\"uid\":", uid),
+        Verdict::Absent(uid) => push_words_uid(
+            text,
+            b"\"status\":1,\"kind\":\"absent\",\"uid\":",
+            uid,
+        ),
         Verdict::Unlisted(uid) => {
-            push_named(text, b"\"status\":1,\"kind\":\"unlisted\",\"uid\":", uid)
+            push_words_uid(text, b"\"status\":1,\"kind\":\"unlisted\",\"uid\":", uid)
         }
         Verdict::Unsettled(mask) => {
             text.extend_from_slice(b"\"status\":1,\"kind\":\"unsettled\",")?;
             push_mask_members(text, &mask)
         }
         Verdict::Doubtful(uid) => {
-            push_named(text, b"\"status\":1,\"kind\":\"doubtful\",\"uid\":", uid)
+            push_words_uid(text, b"\"status\":1,\"kind\":\"doubtful\",\"uid\":", uid)
         }
         Verdict::Impossible { line } => {
-            push_number(
+            push_words_number(
                 text,
                 b"\"status\":2,\"kind\":\"impossible\",\"line\":",
                 line,
@@ -46,7 +50,11 @@ pub(crate) fn push_verdict(text: &mut Vec<u8>, verdict: &Verdict) -> Result<(), 
 }
 
 /// Appends words and a number.
-pub(crate) fn push_number(text: &mut Vec<u8>, words: &[u8], number: u32) -> Result<(), AllocError>
+pub(crate) fn push_words_number(
+    text: &mut Vec<u8>,
+    words: &[u8],
+    number: u32,
+) -> Result<(), AllocError>
     ensures { OnOk result (text.new.items ≡ text.old.items ++ (words.now ++ decimal number)) }
 {
     text.extend_from_slice(words)?;
@@ -54,7 +62,7 @@ pub(crate) fn push_number(text: &mut Vec<u8>, words: &[u8], number: u32) -> Resu
 }
 
 /// Appends words and a UID.
-fn push_named(text: &mut Vec<u8>, words: &[u8], uid: Uid) -> Result<(), AllocError>
+fn push_words_uid(text: &mut Vec<u8>, words: &[u8], uid: Uid) -> Result<(), AllocError>
     ensures { OnOk result (text.new.items ≡ text.old.items ++ (words.now ++ json_uid uid)) }
 {
     text.extend_from_slice(words)?;
@@ -70,7 +78,7 @@ pub(crate) fn push_refused(
     ensures { OnOk result
         (text.new.items ≡ text.old.items ++ spec.refused_members line fault.now) }
 {
-    push_number(text, b"\"status\":3,\"kind\":\"refused\",\"line\":", line)?;
+    push_words_number(text, b"\"status\":3,\"kind\":\"refused\",\"line\":", line)?;
     text.extend_from_slice(b",\"fault\":\"")?;
     text.extend_from_slice(fault.name().as_bytes())?;
     text.extend_from_slice(b"\"")
@@ -90,7 +98,7 @@ pub(crate) fn push_margin(text: &mut Vec<u8>, weakest: &Option<Weakest>) -> Resu
 fn push_weakest(text: &mut Vec<u8>, weakest: &Weakest) -> Result<(), AllocError>
     ensures { OnOk result (text.new.items ≡ text.old.items ++ spec.weakest_members weakest.now) }
 {
-    push_number(text, b",\"margin\":", weakest.margin)?;
+    push_words_number(text, b",\"margin\":", weakest.margin)?;
     text.extend_from_slice(b",\"weakest\":")?;
     weakest.mask.push_json(text)
 }

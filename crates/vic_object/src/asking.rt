@@ -159,13 +159,13 @@ fn has_collided_below(collided: &Collisions, mask: &Mask) -> bool
 {
     let mut found = false;
     for k in 0..16u8 {
-        found = has_collided_in(&collided.masks, mask, k) || found;
+        found = has_collided_in_slot(&collided.masks, mask, k) || found;
     }
     found
 }
 
 /// Whether tags collided in a slot with the mask of slot `k` of sixteen.
-fn has_collided_in(masks: &BTreeSet<Mask>, mask: &Mask, k: u8) -> bool
+fn has_collided_in_slot(masks: &BTreeSet<Mask>, mask: &Mask, k: u8) -> bool
     requires len { mask.now.len ≤ MAX_MASK_LEN_OF_SIXTEEN }
     requires k { k ≤ 15 }
     ensures { result ≡ has_mask masks.now (slot_of_sixteen mask.now k) }
@@ -178,7 +178,7 @@ fn has_collided_in(masks: &BTreeSet<Mask>, mask: &Mask, k: u8) -> bool
 
 /// Whether a mask is asked in sixteen slots: that of all tags, and one in which, or within which,
 /// tags collided.
-fn is_for_sixteen(collided: &Collisions, mask: &Mask) -> bool
+fn needs_sixteen_slots(collided: &Collisions, mask: &Mask) -> bool
     requires { mask.now.len ≤ UID_BITS }
     ensures { (es : List EntryValue) → AreCollided es collided.now
         → result ≡ (mask.now.len == 0 || spec.has_collided_within es mask.now) }
@@ -189,8 +189,9 @@ fn is_for_sixteen(collided: &Collisions, mask: &Mask) -> bool
     has_middle_in(&collided.middles, mask)
 }
 
-/// Appends what asks for a mask, which is divided into the masks of sixteen slots so often at most.
-pub(crate) fn push_asks(
+/// Appends what asks for a mask, which is divided into the masks of its sixteen slots, and these
+/// again, at most `times` times.
+pub(crate) fn push_requests(
     requests: &mut Vec<ValidRequest>,
     collided: &Collisions,
     times: u8,
@@ -206,20 +207,20 @@ pub(crate) fn push_asks(
         return Ok(());
     }
     if !has_collided_below(collided, &mask) {
-        let sixteen = is_for_sixteen(collided, &mask);
-        return push_ask(requests, link, sixteen, mask);
+        let sixteen = needs_sixteen_slots(collided, &mask);
+        return push_request(requests, link, sixteen, mask);
     }
     for k in 0..16u8 {
         let Some(slot) = mask.slot(k) else {
             unreachable!()
         };
-        push_asks(requests, collided, times - 1, link, slot)?;
+        push_requests(requests, collided, times - 1, link, slot)?;
     }
     Ok(())
 }
 
 /// Appends one request.
-fn push_ask(
+fn push_request(
     requests: &mut Vec<ValidRequest>,
     link: u8,
     sixteen: bool,

@@ -41,17 +41,17 @@ pub(crate) fn cautious_readings(
         IsCautiousReading log.lines (deaf_entries (entries log.lines)) verdict.now r.1) }
 {
     match *verdict {
-        Verdict::Complete { count } => cautious_of_complete(alloc, log, count),
+        Verdict::Complete { count } => opened_readings(alloc, log, count),
         Verdict::Impossible { .. }
         | Verdict::Absent(_)
         | Verdict::Unlisted(_)
         | Verdict::Unsettled(_)
-        | Verdict::Doubtful(_) => cautious_of_other(alloc, log, verdict, certain),
+        | Verdict::Doubtful(_) => judged_readings(alloc, log, verdict, certain),
     }
 }
 
-/// The same, by a judging of each. It is one, if no silent slot comes behind the last answer.
-fn cautious_of_other(
+/// The same, each judged anew. Both are one, if no silent slot comes behind the last answer.
+fn judged_readings(
     alloc: Global,
     log: Log,
     verdict: &Verdict,
@@ -74,9 +74,9 @@ fn cautious_of_other(
     Ok((hidden, deaf))
 }
 
-/// The same, if the list of the log is complete, and has so many UIDs. It walks over both readings
-/// at once.
-fn cautious_of_complete(
+/// The same, if the list of the log is complete, and has so many UIDs: by what each reading opens,
+/// which one walk finds for both.
+fn opened_readings(
     alloc: Global,
     log: Log,
     count: u32,
@@ -91,18 +91,18 @@ fn cautious_of_complete(
     let listed = listed_uids(alloc, log.lines())?;
     let keys = SortedKeys::of(alloc, listed.as_slice())?;
     let (hidden_log, readings) = readings_of_complete(alloc, log, &keys)?;
-    let hidden = reading_of_opened(alloc, &hidden_log, count, readings.hidden)?;
+    let hidden = opened_reading(alloc, &hidden_log, count, readings.hidden)?;
     if !falls_silent {
         let deaf = hidden;
         return Ok((hidden, deaf));
     }
-    let deaf = reading_of_opened(alloc, &hidden_log.into_deaf(), count, readings.deaf)?;
+    let deaf = opened_reading(alloc, &hidden_log.into_deaf(), count, readings.deaf)?;
     Ok((hidden, deaf))
 }
 
 /// What a reading of a log with a complete list tells, by the first mask of UIDs that it leaves
 /// open beside the log.
-fn reading_of_opened(
+fn opened_reading(
     alloc: Global,
     log: &Log,
     count: u32,
@@ -123,18 +123,18 @@ fn reading_of_opened(
         None => Ok(CautiousReading {
             verdict: Verdict::Complete { count },
             holds: true,
-            weakest: Some(weakest_in(alloc, log)?),
+            weakest: Some(weakest_of_log(alloc, log)?),
             settled: true,
         }),
     }
 }
 
 /// The margin of a log, and the first mask of UIDs that have it.
-fn weakest_in(alloc: Global, log: &Log) -> Result<Weakest, AllocError>
+fn weakest_of_log(alloc: Global, log: &Log) -> Result<Weakest, AllocError>
     ensures { IfOk result (IsWeakest (entries log.now.lines)) }
 {
     let log_parts = LogParts::of(alloc, &LogLines::of(log))?;
-    weakest_of(alloc, log, log_parts)
+    weakest_by_parts(alloc, log, log_parts)
 }
 
 /// What a reading of a log tells, where the log itself has this verdict and these certain UIDs. It
@@ -236,7 +236,7 @@ pub(crate) fn weakest_if_complete(
     ensures { IfOk result (IsWeakestIfComplete (entries log.now.lines) verdict.now) }
 {
     match *verdict {
-        Verdict::Complete { .. } => Ok(Some(weakest_of(alloc, log, log_parts)?)),
+        Verdict::Complete { .. } => Ok(Some(weakest_by_parts(alloc, log, log_parts)?)),
         Verdict::Impossible { .. }
         | Verdict::Absent(_)
         | Verdict::Unlisted(_)
@@ -245,8 +245,8 @@ pub(crate) fn weakest_if_complete(
     }
 }
 
-/// The same of any log, by its parts.
-fn weakest_of(alloc: Global, log: &Log, log_parts: LogParts) -> Result<Weakest, AllocError>
+/// The margin of a log, and the first mask of UIDs that have it, by its parts.
+fn weakest_by_parts(alloc: Global, log: &Log, log_parts: LogParts) -> Result<Weakest, AllocError>
     requires { AreLogParts (entries log.now.lines) log_parts }
     ensures { IfOk result (IsWeakest (entries log.now.lines)) }
 {

@@ -39,9 +39,9 @@ impl ToJson for FindingTold {
     fn push_json(&self, text: &mut Vec<u8>) -> Result<(), AllocError> {
         match *self {
             FindingTold::SilencedBy(line) => {
-                push_of_line(text, b"{\"kind\":\"silenced by\",\"line\":", line)
+                push_last_number(text, b"{\"kind\":\"silenced by\",\"line\":", line)
             }
-            FindingTold::Conflict(line) => push_of_line(
+            FindingTold::Conflict(line) => push_last_number(
                 text,
                 b"{\"kind\":\"conflict\",\"line\":",
                 line,
@@ -53,13 +53,13 @@ impl ToJson for FindingTold {
     }
 }
 
-/// Appends an object that ends with the number of a line.
-fn push_of_line(text: &mut Vec<u8>, opening: &[u8], line: u32) -> Result<(), AllocError>
+/// Appends words, a number, and the brace that ends an object.
+fn push_last_number(text: &mut Vec<u8>, words: &[u8], number: u32) -> Result<(), AllocError>
     ensures { OnOk result (text.new.items
-        ≡ text.old.items ++ (opening.now ++ decimal line ++ codes "}")) }
+        ≡ text.old.items ++ (words.now ++ decimal number ++ codes "}")) }
 {
-    text.extend_from_slice(opening)?;
-    push_decimal(text, u64::from(line))?;
+    text.extend_from_slice(words)?;
+    push_decimal(text, u64::from(number))?;
     text.extend_from_slice(b"}")
 }
 
@@ -71,7 +71,7 @@ fn push_absent(text: &mut Vec<u8>, shown: &ShownUid, overlooked: u32) -> Result<
 {
     text.extend_from_slice(b"{\"kind\":\"absent\",")?;
     push_shown(text, shown)?;
-    push_of_line(text, b",\"overlooked\":", overlooked)
+    push_last_number(text, b",\"overlooked\":", overlooked)
 }
 
 /// Appends an unlisted UID.
@@ -145,14 +145,14 @@ fn first_findings(
         ≡ spec.first_findings (margin_of (entries log.now.lines)) findings.now) }
 {
     let mut found = Vec::new(alloc);
-    push_absent_of(
+    add_absent(
         &mut found,
         alloc,
         log,
         first_of(&findings.absent, MOST_TOLD),
     )?;
-    push_unlisted_of(&mut found, first_of(&findings.unlisted, MOST_TOLD))?;
-    push_doubtful_of(&mut found, first_of(&findings.doubtful, MOST_TOLD))?;
+    add_unlisted(&mut found, first_of(&findings.unlisted, MOST_TOLD))?;
+    add_doubtful(&mut found, first_of(&findings.doubtful, MOST_TOLD))?;
     Ok(found)
 }
 
@@ -168,7 +168,7 @@ pub(crate) fn first_of<T>(items: &[T], most: usize) -> &[T]
 }
 
 /// Adds absent UIDs, each with how often it was overlooked.
-fn push_absent_of(
+fn add_absent(
     found: &mut Vec<FindingTold>,
     alloc: Global,
     log: &Log,
@@ -185,11 +185,11 @@ fn push_absent_of(
         uids.push(shown.uid)?;
     }
     let counts = overlooked(alloc, log, &uids)?;
-    push_counted(found, absent, &counts)
+    add_with_counts(found, absent, &counts)
 }
 
 /// Adds absent UIDs, each with its count.
-fn push_counted(
+fn add_with_counts(
     found: &mut Vec<FindingTold>,
     absent: &[ShownUid],
     counts: &[u32],
@@ -209,7 +209,7 @@ fn push_counted(
 }
 
 /// Adds unlisted UIDs.
-fn push_unlisted_of(found: &mut Vec<FindingTold>, unlisted: &[ShownUid]) -> Result<(), AllocError>
+fn add_unlisted(found: &mut Vec<FindingTold>, unlisted: &[ShownUid]) -> Result<(), AllocError>
     ensures { OnOk result
         (found.new.items ≡ found.old.items ++ map FindingValue.Unlisted unlisted.now) }
 {
@@ -220,7 +220,7 @@ fn push_unlisted_of(found: &mut Vec<FindingTold>, unlisted: &[ShownUid]) -> Resu
 }
 
 /// Adds doubtful UIDs.
-fn push_doubtful_of(found: &mut Vec<FindingTold>, doubtful: &[Uid]) -> Result<(), AllocError>
+fn add_doubtful(found: &mut Vec<FindingTold>, doubtful: &[Uid]) -> Result<(), AllocError>
     ensures { OnOk result
         (found.new.items ≡ found.old.items ++ map FindingValue.Doubtful doubtful.now) }
 {

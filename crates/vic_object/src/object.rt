@@ -61,12 +61,12 @@ fn told_of_log(alloc: Global, log: Log) -> Result<LogTold, AllocError>
     let PlainReading {
         report,
         field,
-        keys,
+        certain_keys,
         weakest,
     } = plain_reading(alloc, &log)?;
     let verdict = report.verdict();
     let findings = findings_told(alloc, &log, &report)?;
-    let (hidden, deaf) = cautious_readings(alloc, log, &verdict, &keys)?;
+    let (hidden, deaf) = cautious_readings(alloc, log, &verdict, &certain_keys)?;
     Ok(LogTold {
         report,
         findings,

@@ -13,7 +13,7 @@ ghost use Rattle.vic_object.specs.inner.Certain.{AreCertainKeys};
 ghost use Rattle.vic_object.specs.inner.Collided.{AreCollided};
 ghost use Rattle.vic_log.specs.declared.entry.Entry.{Entry as EntryValue};
 
-use crate::asking::{Collisions, push_asks};
+use crate::asking::{Collisions, push_requests};
 use crate::cautious::weakest_if_complete;
 use crate::finding::MOST_TOLD;
 use crate::told::{AskedMask, FieldTold};
@@ -32,7 +32,7 @@ use vic_walk::LogParts;
 pub(crate) struct PlainReading {
     pub report: LogReport,
     pub field: FieldTold,
-    pub keys: Option<SortedKeys>,
+    pub certain_keys: Option<SortedKeys>,
     pub weakest: Option<Weakest>,
 }
 
@@ -41,7 +41,7 @@ pub(crate) struct PlainReading {
 pub(crate) fn plain_reading(alloc: Global, log: &Log) -> Result<PlainReading, AllocError>
     ensures report { IfOk result (λ plain. IsReport log.now.lines plain.report) }
     ensures field { IfOk result (λ plain. spec.IsFieldTold log.now.lines plain.field) }
-    ensures keys { IfOk result (λ plain. AreCertainKeys log.now.lines plain.keys) }
+    ensures certain_keys { IfOk result (λ plain. AreCertainKeys log.now.lines plain.certain_keys) }
     ensures weakest { IfOk result (λ plain. spec.IsWeakestIfComplete (entries log.now.lines)
         (verdict_of plain.report) plain.weakest) }
 {
@@ -51,8 +51,8 @@ pub(crate) fn plain_reading(alloc: Global, log: &Log) -> Result<PlainReading, Al
             let conflict = find_conflict(alloc, log, line)?;
             Ok(PlainReading {
                 report: LogReport::Impossible(conflict),
-                field: nothing(alloc),
-                keys: None,
+                field: no_field(alloc),
+                certain_keys: None,
                 weakest: None,
             })
         }
@@ -60,7 +60,7 @@ pub(crate) fn plain_reading(alloc: Global, log: &Log) -> Result<PlainReading, Al
 }
 
 /// What an impossible log says of its field.
-fn nothing(alloc: Global) -> FieldTold
+fn no_field(alloc: Global) -> FieldTold
     ensures certain { result.certain.items ≡ [] }
     ensures masks { result.masks ≡ 0 }
     ensures uids { result.uids ≡ 0 }
@@ -86,18 +86,18 @@ fn plain_of_facts(
     requires parts { AreLogParts (entries log.now.lines) log_parts }
     ensures report { IfOk result (λ plain. IsReport log.now.lines plain.report) }
     ensures field { IfOk result (λ plain. spec.IsFieldTold log.now.lines plain.field) }
-    ensures keys { IfOk result (λ plain. AreCertainKeys log.now.lines plain.keys) }
+    ensures certain_keys { IfOk result (λ plain. AreCertainKeys log.now.lines plain.certain_keys) }
     ensures weakest { IfOk result (λ plain. spec.IsWeakestIfComplete (entries log.now.lines)
         (verdict_of plain.report) plain.weakest) }
 {
-    let keys = SortedKeys::of(alloc, facts.certain.as_slice())?;
-    let field = field_told(alloc, log, &facts, &keys)?;
+    let certain_keys = SortedKeys::of(alloc, facts.certain.as_slice())?;
+    let field = field_told(alloc, log, &facts, &certain_keys)?;
     let report = report_of_facts(alloc, facts, log)?;
     let weakest = weakest_if_complete(alloc, &report.verdict(), log, log_parts)?;
     Ok(PlainReading {
         report,
         field,
-        keys: Some(keys),
+        certain_keys: Some(certain_keys),
         weakest,
     })
 }
@@ -107,16 +107,16 @@ fn field_told(
     alloc: Global,
     log: &Log,
     facts: &Facts<RangeSet>,
-    keys: &SortedKeys,
+    certain_keys: &SortedKeys,
 ) -> Result<FieldTold, AllocError>
     requires facts { AreFactsOf (entries log.now.lines) (is_open_in facts.now.«open»)
         facts.now.met facts.now.certain }
-    requires keys { AreKeysOf keys.now facts.now.certain }
+    requires certain_keys { AreKeysOf certain_keys.now facts.now.certain }
     ensures { IfOk result (spec.IsFieldTold log.now.lines) }
 {
     let CountedMasks { masks, count, uids } = facts
         .open
-        .counted_masks_besides(alloc, keys, MOST_TOLD)?;
+        .counted_masks_besides(alloc, certain_keys, MOST_TOLD)?;
     let collided = Collisions::of(alloc, log)?;
     Ok(FieldTold {
         certain: Vec::from_slice(alloc, facts.certain.as_slice())?,
@@ -183,6 +183,6 @@ fn asked_mask(
 {
     let mut requests = Vec::new(alloc);
     let times = MAX_MASK_LEN_OF_SIXTEEN.saturating_sub(mask.len()) / 4;
-    push_asks(&mut requests, collided, times, link, mask)?;
+    push_requests(&mut requests, collided, times, link, mask)?;
     Ok(AskedMask { mask, requests })
 }

@@ -7,7 +7,7 @@ ghost use Rattle.vic_answer.specs.CheckText.{check_text};
 ghost use Rattle.vic_object.specs.Finding.{finding_object};
 ghost use Rattle.vic_object.specs.ObjectText as spec;
 
-use crate::answer::{push_margin, push_number, push_refused, push_verdict};
+use crate::answer::{push_margin, push_refused, push_verdict, push_words_number};
 use crate::finding::{FindingTold, first_of};
 use crate::lines::line_count;
 use crate::told::{AskedMask, CautiousReading, FieldTold, LogTold, MOST_CERTAIN};
@@ -222,14 +222,14 @@ fn push_counts(
     ensures { OnOk result
         (text.new.items ≡ text.old.items ++ spec.counts_object absent unlisted doubtful) }
 {
-    push_count(text, b"{\"absent\":", absent)?;
-    push_count(text, b",\"unlisted\":", unlisted)?;
-    push_count(text, b",\"doubtful\":", doubtful)?;
+    push_words_count(text, b"{\"absent\":", absent)?;
+    push_words_count(text, b",\"unlisted\":", unlisted)?;
+    push_words_count(text, b",\"doubtful\":", doubtful)?;
     text.extend_from_slice(b"}")
 }
 
 /// Appends words and a count.
-fn push_count(text: &mut Vec<u8>, words: &[u8], count: usize) -> Result<(), AllocError>
+fn push_words_count(text: &mut Vec<u8>, words: &[u8], count: usize) -> Result<(), AllocError>
     ensures { OnOk result (text.new.items ≡ text.old.items ++ (words.now ++ decimal count)) }
 {
     text.extend_from_slice(words)?;
@@ -250,7 +250,7 @@ fn push_field(text: &mut Vec<u8>, field: &FieldTold) -> Result<(), AllocError>
 fn push_certain(text: &mut Vec<u8>, uids: &[Uid]) -> Result<(), AllocError>
     ensures { OnOk result (text.new.items ≡ text.old.items ++ spec.certain_object uids.now) }
 {
-    push_count(text, b"{\"count\":", uids.len())?;
+    push_words_count(text, b"{\"count\":", uids.len())?;
     text.extend_from_slice(b",\"uids\":")?;
     push_json_list(text, first_of(uids, MOST_CERTAIN))?;
     text.extend_from_slice(b"}")

@@ -1,4 +1,5 @@
--- What the files of a collection are and have, each by itself (profile).
+-- What the files of a collection are and have, each by itself (profile). A definition `..By` takes
+-- the kind of a text, or what tells it; the one without `By` tells it by `kind_of`.
 use Rattle.std.specs.Prelude.{◌≡◌, ℕ, Bool, true, false, ⊤, Option, Some, None, List, [], ◌∷◌}
 use Rattle.std.specs.List.{AllZip, flat_map}
 use Rattle.vic_survey.specs.Making.{IsFieldOf}

@@ -36,7 +36,8 @@ IsFirstWrongFile files r = IsFirstWrongBy kind_of files r
 
 -- ---- none of them is refused
 
--- there isn't one catalogue, or there are two tables of places
+-- they are no operands of a collection: they have no catalogue, or several, or several tables of
+-- places
 abbrev pub AreNoOperands : List File → Type 0
 AreNoOperands files =
     (length (filter is_catalogue files) ≢ 1) ⊎ (1 < length (filter is_places files))
@@ -58,7 +59,7 @@ pub record IsSameName (c : CollectionValue) (r : Refusal) : Type 0 where
   pub line : r.line ≡ 1
   pub fault : r.fault ≡ SameName
 
--- there are places of logs, and the catalogue, which has this name, doesn't ask for places
+-- there is a table of places, but the catalogue, which has this one name, has no column of places
 pub record IsUnasked (c : CollectionValue) (names : List (List ℕ)) (r : Refusal) : Type 0 where
   pub unlike : AreUnlike c
   pub given : is_some c.rows ≡ true

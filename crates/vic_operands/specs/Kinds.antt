@@ -18,7 +18,7 @@ kind_of text =
 
 -- ---- for `reconcile`
 
--- the first file is a list of what is expected, and no table
+-- the first operand is a list of what is expected, by how it begins; any other is of a collection
 abbrev pub is_list : List ℕ → Bool
 is_list text = length text == 0 || begins text (codes "vicinity-")
 

@@ -31,7 +31,8 @@ pub fn kind_of(text: &[u8]) -> Kind
     }
 }
 
-/// Whether the first operand of `reconcile` is a list of what is expected, and no table.
+/// Whether the first operand of `reconcile` is a list of what is expected, by how it begins; any
+/// other is of a collection.
 pub(crate) fn is_list(text: &[u8]) -> bool
     ensures { result ≡ spec.is_list text.now }
 {

@@ -79,7 +79,7 @@ impl Operands {
         match self.state {
             State::Unnamed => Ok(Gathered::Usage),
             State::Refused(refusal) => Ok(Gathered::Refused(refusal)),
-            State::Kept(kept) => gather(alloc, kept),
+            State::Kept(kept) => gather_kept(alloc, kept),
         }
     }
 }
@@ -136,8 +136,9 @@ fn with_operand(kept: Kept, operand: Operand) -> Result<Kept, AllocError>
     }
 }
 
-/// What files are together that have no fault.
-fn gather(alloc: Global, kept: Kept) -> Result<Gathered, AllocError>
+/// What files are together that have no fault: a collection, if there is one catalogue, and at most
+/// one table of places.
+fn gather_kept(alloc: Global, kept: Kept) -> Result<Gathered, AllocError>
     ensures { IfOk result (λ gathered. (files : List FileValue) → spec.AreNamed files
         → HaveKept files kept → spec.IsGathered files gathered) }
 {
@@ -153,13 +154,14 @@ fn gather(alloc: Global, kept: Kept) -> Result<Gathered, AllocError>
         return Ok(Gathered::Usage);
     }
     match catalogues.pop() {
-        Some(catalogue) => together(alloc, catalogue, places.pop(), surveys),
+        Some(catalogue) => gather_parts(alloc, catalogue, places.pop(), surveys),
         None => Ok(Gathered::Usage),
     }
 }
 
-/// What a catalogue, the places of logs and surveys are together.
-fn together(
+/// What a catalogue, a table of places and surveys are together: refused, if two logs can't be told
+/// apart.
+fn gather_parts(
     alloc: Global,
     catalogue: NamedCatalogue,
     rows: Option<Places>,
@@ -172,19 +174,23 @@ fn together(
         → spec.IsGathered files gathered) }
 {
     let NamedCatalogue { name, catalogue } = catalogue;
-    let unasked = are_unasked(&catalogue, &rows);
+    let unasked = has_unasked_places(&catalogue, &rows);
     let collection = Collection::new(alloc, catalogue, rows, surveys)?;
     match collection.first_alike(alloc)? {
         Some(index) => {
-            let refusal = same_name(alloc, collection.surveys(), index)?;
+            let refusal = refusal_of_same_name(alloc, collection.surveys(), index)?;
             Ok(Gathered::Refused(refusal))
         }
-        None => Ok(unlike(name, unasked, collection)),
+        None => Ok(told_apart(name, unasked, collection)),
     }
 }
 
 /// Refuses the log at this index: it is known by what a log before it is known by.
-fn same_name(alloc: Global, surveys: &[Survey], index: usize) -> Result<Refusal, AllocError>
+fn refusal_of_same_name(
+    alloc: Global,
+    surveys: &[Survey],
+    index: usize,
+) -> Result<Refusal, AllocError>
     requires { index < length surveys.now }
     ensures name { IfOk result (λ r. IsSomeAnd (slice_get surveys.now index)
         (λ s. string_bytes r.name ≡ s.name)) }
@@ -198,8 +204,8 @@ fn same_name(alloc: Global, surveys: &[Survey], index: usize) -> Result<Refusal,
     })
 }
 
-/// What files are together whose logs can be told apart.
-fn unlike(name: String, unasked: bool, collection: Collection) -> Gathered
+/// What files are together whose logs can be told apart: refused, if their places aren't asked for.
+fn told_apart(name: String, unasked: bool, collection: Collection) -> Gathered
     ensures { (files : List FileValue) → spec.AreNamed files → spec.AreTogether files collection
         → map (λ f. f.name) (filter is_catalogue files) ≡ string_bytes name ∷ []
         → AreUnlike collection
@@ -217,8 +223,8 @@ fn unlike(name: String, unasked: bool, collection: Collection) -> Gathered
     }
 }
 
-/// Whether there are places of logs, and a catalogue doesn't ask for places.
-fn are_unasked(catalogue: &Catalogue, rows: &Option<Places>) -> bool
+/// Whether there is a table of places, but the catalogue has no column of places.
+fn has_unasked_places(catalogue: &Catalogue, rows: &Option<Places>) -> bool
     ensures { result ≡ (is_some rows.now && is_none catalogue.now.columns.place) }
 {
     rows.is_some() && catalogue.columns().place.is_none()

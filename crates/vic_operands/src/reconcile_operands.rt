@@ -83,12 +83,12 @@ impl ReconcileOperands {
         ensures { IfOk result (λ gathered. (files : List FileValue)
             → HasTakenToReconcile files self → IsGatheredToReconcile files gathered) }
     {
-        gathered(alloc, self.state)
+        gather_state(alloc, self.state)
     }
 }
 
 /// What files are together, by what is known of them.
-fn gathered(alloc: Global, state: ReconcileState) -> Result<Gathered, AllocError>
+fn gather_state(alloc: Global, state: ReconcileState) -> Result<Gathered, AllocError>
     ensures { IfOk result (λ gathered. (files : List FileValue)
         → HasTakenToReconcileBy files state → IsGatheredToReconcile files gathered) }
 {
@@ -113,7 +113,7 @@ fn state_with(
         → HasTakenToReconcileBy (files ++ record { name = name; text = text.items } ∷ []) more) }
 {
     match before {
-        ReconcileState::Nothing => first(alloc, name, text),
+        ReconcileState::Nothing => with_first(alloc, name, text),
         ReconcileState::Unnamed => Ok(ReconcileState::Unnamed),
         ReconcileState::Refused(refusal) => Ok(ReconcileState::Refused(refusal)),
         ReconcileState::Listed(listed) => with_log(alloc, listed, name, text.as_slice()),
@@ -125,19 +125,19 @@ fn state_with(
 }
 
 /// What is known of the first file.
-fn first(alloc: Global, name: Name, text: Vec<u8>) -> Result<ReconcileState, AllocError>
+fn with_first(alloc: Global, name: Name, text: Vec<u8>) -> Result<ReconcileState, AllocError>
     ensures { IfOk result (λ one. IsName name
         → HasTakenToReconcileBy (record { name = name; text = text.items } ∷ []) one) }
 {
     if is_list(text.as_slice()) {
-        return first_list(alloc, name, text.as_slice());
+        return with_list(alloc, name, text.as_slice());
     }
     let operands = Operands::begin(alloc).add(alloc, name.as_str(), text)?;
     Ok(ReconcileState::Collected(operands))
 }
 
 /// What is known of a list.
-fn first_list(alloc: Global, name: Name, text: &[u8]) -> Result<ReconcileState, AllocError>
+fn with_list(alloc: Global, name: Name, text: &[u8]) -> Result<ReconcileState, AllocError>
     requires { is_list text.now ≡ true }
     ensures { IfOk result (λ one. IsName name
         → HasTakenToReconcileBy (record { name = name; text = text.now } ∷ []) one) }

@@ -13,7 +13,7 @@ use Rattle.vic_program.specs.Written.{IsOut, IsOutOfMemory, WritesNothing, Write
 use Rattle.vic_program.specs.FilesView.{FilesView}
 use Rattle.vic_log.specs.declared.sink.Sink.{Ghosts as Sink}
 
--- what a command writes for texts with these names, and with which status
+-- the type of what relates names and texts to what a command writes for them, and to its status
 abbrev pub ForTexts : Type 1
 ForTexts = List (List ℕ) → List (List ℕ) → List ℕ → Status → Type 0
 

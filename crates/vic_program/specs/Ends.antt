@@ -23,12 +23,12 @@ line_of Usage = usage_line
 line_of (CannotOpen name) = codes "vicinity: cannot open " ++ name.now
 line_of (Run fault) = fault_text fault
 
--- the end after what was done for the words
+-- the end that this result of `run_asked` is
 abbrev pub end_of : Result Status NoAnswer → End
 end_of (Ok status) = Ok status
 end_of (Err why) = Err (line_of why)
 
--- the end after the run of a task
+-- the end that this result of `do_task` is
 abbrev pub run_end : Result Status RunFault → End
 run_end (Ok status) = Ok status
 run_end (Err fault) = Err (fault_text fault)

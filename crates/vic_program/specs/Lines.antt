@@ -10,7 +10,7 @@ pub record SaysPart {W : Type 0} (w : Sink W) (sink sink' : W) (text : List ℕ)
   pub part : HasWrittenPrefix (w.written sink) (w.written sink') text
   pub untouched : w.has_failed sink ≡ true → sink' ≡ sink
 
--- the same of all that is said: unless the sink failed, it was flushed
+-- that, of all that is said; and it was flushed, unless the sink failed
 pub record SaysLine {W : Type 0} (w : Sink W) (sink sink' : W) (text : List ℕ) : Type 0 where
   pub told : SaysPart w sink sink' text
   pub flushed : w.has_failed sink' ≡ false → w.is_flushed sink' ≡ true

@@ -21,7 +21,7 @@ pub record IsCut {W : Type 0} (w : Sink W) (output output' : W) (answer : List �
   pub failed : w.has_failed output' ≡ true
   pub untouched : w.has_failed output ≡ true → output' ≡ output
 
--- the sink failed, and accepted a prefix of the answer
+-- the same, of some answer that is one of the command; the line says that writing failed
 pub record WritesPart {W : Type 0} (w : Sink W) (IsAnswer : List ℕ → Status → Type 0)
     (output output' : W) (line : List ℕ) : Type 0 where
   pub line_is : line ≡ fault_text Write

@@ -46,7 +46,7 @@ pub(crate) fn end_of_run<'a>(ran: Result<Status, RunFault>) -> Result<Status, No
 }
 
 /// Why there is no answer where a source wasn't read to its end.
-pub(crate) fn read_fault<'a>(fault: ReadFault) -> NoAnswer<'a>
+pub(crate) fn no_answer_for_source<'a>(fault: ReadFault) -> NoAnswer<'a>
     ensures { line_of result ≡ read_fault_line fault }
 {
     match fault {

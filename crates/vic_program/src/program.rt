@@ -33,7 +33,7 @@ pub fn run_program<F: Files, I: Source, O: Sink, E: Sink>(
 {
     match words {
         Ok(words) => run_words(alloc, words, files, input, output, errors),
-        Err(fault) => end(Err(no_request(fault)), errors),
+        Err(fault) => say_end(Err(no_answer_for_words(fault)), errors),
     }
 }
 
@@ -51,13 +51,13 @@ fn run_words<F: Files, I: Source, O: Sink, E: Sink>(
         (λ end. Says E.Sink end errors.old errors.new) }
 {
     match read_words(alloc, words) {
-        Ok(asked) => end(run_asked(alloc, &asked, files, input, output), errors),
-        Err(fault) => end(Err(no_request(fault)), errors),
+        Ok(asked) => say_end(run_asked(alloc, &asked, files, input, output), errors),
+        Err(fault) => say_end(Err(no_answer_for_words(fault)), errors),
     }
 }
 
 /// Says why there is no answer, if there is none, and returns the exit status.
-fn end<E: Sink>(ended: Result<Status, NoAnswer<'_>>, errors: &mut E) -> u8
+fn say_end<E: Sink>(ended: Result<Status, NoAnswer<'_>>, errors: &mut E) -> u8
     ensures code { result ≡ exit_code (end_of ended.entry) }
     ensures says { Says E.Sink (end_of ended.entry) errors.old errors.new }
 {
@@ -70,8 +70,8 @@ fn end<E: Sink>(ended: Result<Status, NoAnswer<'_>>, errors: &mut E) -> u8
     }
 }
 
-/// Why there is no answer to words that ask for nothing.
-fn no_request(fault: WordsFault) -> NoAnswer<'static>
+/// Why there is no answer to words that ask for nothing, or couldn't be read.
+fn no_answer_for_words(fault: WordsFault) -> NoAnswer<'static>
     ensures { line_of result ≡ words_line fault }
 {
     match fault {

@@ -12,7 +12,7 @@ ghost use Rattle.vic_program.specs.Single.{IsInputText, IsInputUnfinished};
 ghost use Rattle.vic_program.specs.Written.{IsCut, IsOut};
 
 use crate::files::Files;
-use crate::no_answer::{NoAnswer, read_fault};
+use crate::no_answer::{NoAnswer, no_answer_for_source};
 use std::alloc::Global;
 use vic_answer::{RunFault, Status, WrittenText};
 use vic_log::{ReadFault, Sink, Source, write_whole};
@@ -34,7 +34,7 @@ pub(crate) fn file_text<'a, F: Files>(
     match files.open(name) {
         Ok(mut file) => match text_of(alloc, &mut file) {
             Ok(text) => Ok(text),
-            Err(fault) => Err(read_fault(fault)),
+            Err(fault) => Err(no_answer_for_source(fault)),
         },
         Err(_) => Err(NoAnswer::CannotOpen(name)),
     }
@@ -55,7 +55,7 @@ pub(crate) fn input_text<'a, I: Source>(
     }
     match text_of(alloc, input) {
         Ok(text) => Ok(text),
-        Err(fault) => Err(read_fault(fault)),
+        Err(fault) => Err(no_answer_for_source(fault)),
     }
 }
 

@@ -20,6 +20,7 @@ not_possible_line name (Impossible n) =
     codes "impossible at line " ++ decimal n ++ codes " of " ++ name
 not_possible_line name (Possible s) = []
 
+-- the status of a log that isn't possible; no possible one is asked for it, so its 3 means nothing
 abbrev pub not_possible_status : SurveyedField → ℕ
 not_possible_status (Refused n fault) = 3
 not_possible_status (Impossible n) = 2

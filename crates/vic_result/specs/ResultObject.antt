@@ -54,7 +54,7 @@ item_place_json item =
     codes ",\"place\":" ++ json_option json_string item.place
     ++ codes ",\"away\":" ++ json_bool item.away
 
--- in which logs a UID is certain, and in which others it is possible
+-- in which logs a UID is certain, and in which others it may be
 abbrev pub logs_json : List ℕ → List ℕ → List ℕ
 logs_json certain possible =
     codes ",\"certain_in\":" ++ positions_json certain
@@ -107,11 +107,12 @@ field_line (Possible s) = codes "possible"
 abbrev pub is_shared : CollectionValue → ℕ → Bool
 is_shared c u = nat_lt 1 (length (certain_logs c u))
 
--- how many of these are
+-- how many of a log's certain UIDs are
 abbrev pub shared_count : CollectionValue → List ShownUid → ℕ
 shared_count c certain = count_by (λ shown. is_shared c shown.uid) certain
 
--- how many answers a possible log has, how many UIDs are certain, and how many of them in others
+-- how many answers a possible log has, how many UIDs are certain, and how many of these in other
+-- logs too
 abbrev pub seen_counts_json : ℕ → ℕ → ℕ → List ℕ
 seen_counts_json answers certain shared =
     codes ",\"answers\":" ++ decimal answers
@@ -124,7 +125,7 @@ open_masks_json o =
     codes ",\"open\":" ++ json_list (map json_mask o.masks.items)
     ++ codes ",\"more\":" ++ json_bool o.more
 
--- how far it reaches
+-- its margin, its weakest mask, and what its hidden and its deaf reading open
 abbrev pub seen_reach_json : FieldFacts → List ℕ
 seen_reach_json s =
     codes ",\"margin\":" ++ decimal s.margin
@@ -153,7 +154,7 @@ log_json c o s =
     log_head_json s.name (place_of_log c s) (is_left_over c s) (field_line s.field)
     ++ field_json c o s.field ++ codes "}"
 
--- the same as a text: with the masks that the log leaves open
+-- the text is the object of the log, with the first masks that the log leaves open
 abbrev pub IsLogText : CollectionValue → SurveyValue → List ℕ → Type 0
 IsLogText c s text = (o : OpenMasks) × AreOpenMasksOfSurvey c s o × (text ≡ log_json c o s)
 
@@ -182,7 +183,7 @@ abbrev pub items_json : CollectionValue → List ℕ
 items_json c =
     codes ",\"items\":[" ++ comma_joined (map (item_of_json c) c.catalogue.items) ++ codes "]"
 
--- the mask that is unsettled, and the places without a log
+-- what is left to do: the mask that is unsettled, and the places without a log
 abbrev pub lacking_json : Option BitMask → List (List ℕ) → List ℕ
 lacking_json unsettled places =
     codes ",\"unsettled\":" ++ json_option json_mask unsettled

@@ -68,7 +68,7 @@ pub(crate) fn status_by(collection: &Collection, findings: &Findings<'_>) -> u8
     answer_status(collection, &findings.answer())
 }
 
-/// The status of a log that isn't possible.
+/// The status of a log that isn't possible. No possible one is asked for it: its 3 means nothing.
 fn not_possible_status(field: &SurveyedField) -> u8
     ensures { result ≡ not_possible_status field.now }
 {

@@ -6,7 +6,7 @@ ghost use Rattle.vic_text.specs.Json.{comma_joined};
 ghost use Rattle.vic_collection.specs.Collections.{is_unlisted};
 ghost use Rattle.vic_result.specs.Answered.{IsAnswerStatus};
 ghost use Rattle.vic_result.specs.ResultObject.{IsCollectionObject, unlisted_json, unlisted_list_json, margin_found, margin_member};
-ghost use Rattle.vic_result.specs.inner.ItemLogs.{ArePossibleLogs};
+ghost use Rattle.vic_result.specs.inner.ItemLogs.{AreUndecidedLogs};
 
 mod counts;
 mod item_list;
@@ -60,17 +60,17 @@ fn push_found_margin(text: &mut Vec<u8>, found: Option<LogMargin>) -> Result<(),
 fn push_unlisted_list(
     text: &mut Vec<u8>,
     collection: &Collection,
-    possible: &LogsByUid,
+    undecided: &LogsByUid,
     unlisted: &[UnlistedUid],
 ) -> Result<(), AllocError>
-    requires possible { ArePossibleLogs collection.now possible.now }
+    requires undecided { AreUndecidedLogs collection.now undecided.now }
     requires unlisted { All (λ x. is_unlisted collection.now x.uid ≡ true) unlisted.now }
     ensures { OnOk result (text.new.items ≡ text.old.items
         ++ comma_joined (map (unlisted_json collection.now) unlisted.now)) }
 {
     for (index, one) in unlisted.iter().enumerate() {
         push_comma(text, index)?;
-        push_unlisted_uid(text, collection, possible, one.uid, one.line)?;
+        push_unlisted_uid(text, collection, undecided, one.uid, one.line)?;
     }
     Ok(())
 }
@@ -79,16 +79,16 @@ fn push_unlisted_list(
 fn push_unlisted_member(
     text: &mut Vec<u8>,
     collection: &Collection,
-    possible: &LogsByUid,
+    undecided: &LogsByUid,
     unlisted: &[UnlistedUid],
 ) -> Result<(), AllocError>
-    requires possible { ArePossibleLogs collection.now possible.now }
+    requires undecided { AreUndecidedLogs collection.now undecided.now }
     requires unlisted { All (λ x. is_unlisted collection.now x.uid ≡ true) unlisted.now }
     ensures { OnOk result
         (text.new.items ≡ text.old.items ++ unlisted_list_json collection.now unlisted.now) }
 {
     text.extend_from_slice(b",\"unexpected\":[")?;
-    push_unlisted_list(text, collection, possible, unlisted)?;
+    push_unlisted_list(text, collection, undecided, unlisted)?;
     text.extend_from_slice(b"]")
 }
 
@@ -99,7 +99,7 @@ pub fn object_text(alloc: Global, collection: &Collection) -> Result<ResultText,
 {
     let findings = collection.findings(alloc)?;
     let answer = findings.answer();
-    let possible = collection.undecided_logs(alloc)?;
+    let undecided = collection.undecided_logs(alloc)?;
     let states = findings.states.as_slice();
     let masks = collection.open_masks(alloc)?;
     let status = answer_status(collection, &answer);
@@ -111,8 +111,8 @@ pub fn object_text(alloc: Global, collection: &Collection) -> Result<ResultText,
     push_margin_member(&mut text, collection, &answer)?;
     let unlisted = findings.unlisted.as_slice();
     push_catalogue(&mut text, collection, states, &mut cells, unlisted.len())?;
-    push_items_member(&mut text, collection, &possible, states, &mut cells)?;
-    push_unlisted_member(&mut text, collection, &possible, unlisted)?;
+    push_items_member(&mut text, collection, &undecided, states, &mut cells)?;
+    push_unlisted_member(&mut text, collection, &undecided, unlisted)?;
     push_lacking(&mut text, &findings.unsettled, &findings.without_log)?;
     push_logs_member(alloc, &mut text, collection, &masks)?;
     Ok(ResultText { text, status })

@@ -6,7 +6,7 @@ ghost use Rattle.vic_collection.specs.Collections.{is_unlisted};
 ghost use Rattle.vic_collection.specs.States.{state_of};
 ghost use Rattle.vic_result.specs.Answered.{IsAnswerStatus};
 ghost use Rattle.vic_result.specs.ResultTable.{IsCollectionTable, item_row, table_text as text_with, unlisted_row};
-ghost use Rattle.vic_result.specs.inner.ItemLogs.{ArePossibleLogs};
+ghost use Rattle.vic_result.specs.inner.ItemLogs.{AreUndecidedLogs};
 
 mod cells;
 mod head;
@@ -30,10 +30,10 @@ pub fn table_text(alloc: Global, collection: &Collection) -> Result<ResultText, 
     ensures status { IfOk result (λ r. IsAnswerStatus collection.now r.status) }
 {
     let findings = collection.findings(alloc)?;
-    let possible = collection.undecided_logs(alloc)?;
+    let undecided = collection.undecided_logs(alloc)?;
     let states = findings.states.as_slice();
     let unlisted = findings.unlisted.as_slice();
-    let text = table_with(alloc, collection, &possible, states, unlisted)?;
+    let text = table_with(alloc, collection, &undecided, states, unlisted)?;
     let status = status_by(collection, &findings);
     Ok(ResultText { text, status })
 }
@@ -43,12 +43,12 @@ fn push_row_at(
     alloc: Global,
     text: &mut Vec<u8>,
     collection: &Collection,
-    possible: &LogsByUid,
+    undecided: &LogsByUid,
     states: &[State],
     index: usize,
 ) -> Result<(), AllocError>
     requires bound { index < length collection.now.catalogue.items }
-    requires possible { ArePossibleLogs collection.now possible.now }
+    requires undecided { AreUndecidedLogs collection.now undecided.now }
     requires states { states.now ≡ map (state_of collection.now) collection.now.catalogue.items }
     ensures { OnOk result (IsSomeAnd (slice_get collection.now.catalogue.items index) (λ item.
         text.new.items ≡ text.old.items
@@ -57,7 +57,7 @@ fn push_row_at(
     let catalogue = collection.catalogue();
     let surveys = collection.surveys();
     let state = state_at(states, index);
-    let logs = logs_of_item(collection, possible, index);
+    let logs = logs_of_item(collection, undecided, index);
     push_item_row(alloc, text, catalogue, surveys, index, state, logs)?;
     Ok(())
 }
@@ -67,17 +67,17 @@ fn push_item_rows(
     alloc: Global,
     text: &mut Vec<u8>,
     collection: &Collection,
-    possible: &LogsByUid,
+    undecided: &LogsByUid,
     states: &[State],
 ) -> Result<(), AllocError>
-    requires possible { ArePossibleLogs collection.now possible.now }
+    requires undecided { AreUndecidedLogs collection.now undecided.now }
     requires states { states.now ≡ map (state_of collection.now) collection.now.catalogue.items }
     ensures { OnOk result (text.new.items ≡ text.old.items
         ++ flat_map (λ line. line ++ collection.now.catalogue.head_end)
         (map (item_row collection.now) collection.now.catalogue.items)) }
 {
     for index in 0..collection.catalogue().len() {
-        push_row_at(alloc, text, collection, possible, states, index)?;
+        push_row_at(alloc, text, collection, undecided, states, index)?;
     }
     Ok(())
 }
@@ -87,17 +87,17 @@ fn push_row_of_unlisted(
     alloc: Global,
     text: &mut Vec<u8>,
     collection: &Collection,
-    possible: &LogsByUid,
+    undecided: &LogsByUid,
     uid: Uid,
 ) -> Result<(), AllocError>
-    requires possible { ArePossibleLogs collection.now possible.now }
+    requires undecided { AreUndecidedLogs collection.now undecided.now }
     requires unlisted { is_unlisted collection.now uid ≡ true }
     ensures { OnOk result (text.new.items ≡ text.old.items
         ++ (unlisted_row collection.now uid ++ collection.now.catalogue.head_end)) }
 {
     let catalogue = collection.catalogue();
     let surveys = collection.surveys();
-    let logs = logs_of_uid(collection, possible, uid);
+    let logs = logs_of_uid(collection, undecided, uid);
     push_unlisted_row(alloc, text, catalogue, surveys, uid, logs)?;
     Ok(())
 }
@@ -107,17 +107,17 @@ fn push_unlisted_rows(
     alloc: Global,
     text: &mut Vec<u8>,
     collection: &Collection,
-    possible: &LogsByUid,
+    undecided: &LogsByUid,
     unlisted: &[UnlistedUid],
 ) -> Result<(), AllocError>
-    requires possible { ArePossibleLogs collection.now possible.now }
+    requires undecided { AreUndecidedLogs collection.now undecided.now }
     requires unlisted { All (λ x. is_unlisted collection.now x.uid ≡ true) unlisted.now }
     ensures { OnOk result (text.new.items ≡ text.old.items
         ++ flat_map (λ line. line ++ collection.now.catalogue.head_end)
         (map (unlisted_row collection.now) (map (λ x. x.uid) unlisted.now))) }
 {
     for one in unlisted {
-        push_row_of_unlisted(alloc, text, collection, possible, one.uid)?;
+        push_row_of_unlisted(alloc, text, collection, undecided, one.uid)?;
     }
     Ok(())
 }
@@ -126,11 +126,11 @@ fn push_unlisted_rows(
 fn table_with(
     alloc: Global,
     collection: &Collection,
-    possible: &LogsByUid,
+    undecided: &LogsByUid,
     states: &[State],
     unlisted: &[UnlistedUid],
 ) -> Result<Vec<u8>, AllocError>
-    requires possible { ArePossibleLogs collection.now possible.now }
+    requires undecided { AreUndecidedLogs collection.now undecided.now }
     requires states { states.now ≡ map (state_of collection.now) collection.now.catalogue.items }
     requires unlisted { All (λ x. is_unlisted collection.now x.uid ≡ true) unlisted.now }
     ensures { IfOk result (λ text.
@@ -139,7 +139,7 @@ fn table_with(
     let mut text = Vec::new(alloc);
     push_mark(&mut text, collection.catalogue())?;
     push_head_line(&mut text, collection.catalogue())?;
-    push_item_rows(alloc, &mut text, collection, possible, states)?;
-    push_unlisted_rows(alloc, &mut text, collection, possible, unlisted)?;
+    push_item_rows(alloc, &mut text, collection, undecided, states)?;
+    push_unlisted_rows(alloc, &mut text, collection, undecided, unlisted)?;
     Ok(text)
 }

@@ -3,7 +3,7 @@
 ghost use Rattle.std.specs.Prelude.{◌≡◌, ◌<◌, true, IsSomeAnd, length, slice_get};
 ghost use Rattle.vic_collection.specs.Collections.{certain_logs, is_named, undecided_logs};
 ghost use Rattle.vic_result.specs.ResultTable.{logs_by};
-ghost use Rattle.vic_result.specs.inner.ItemLogs.{ArePossibleLogs};
+ghost use Rattle.vic_result.specs.inner.ItemLogs.{AreUndecidedLogs};
 
 use vic_collection::{Collection, LogsByUid};
 use vic_frame::Uid;
@@ -13,44 +13,45 @@ use vic_frame::Uid;
 #[derive(Clone, Copy)]
 pub(crate) struct UidLogs<'a> {
     pub(crate) certain: &'a [usize],
-    pub(crate) possible: &'a [usize],
+    /// Those that tables and objects name as the ones in which it may be.
+    pub(crate) undecided: &'a [usize],
 }
 
 /// In which logs a UID is.
 pub(crate) fn logs_of_uid<'a>(
     collection: &'a Collection,
-    possible: &'a LogsByUid,
+    undecided: &'a LogsByUid,
     uid: Uid,
 ) -> UidLogs<'a>
-    requires possible { ArePossibleLogs collection.now possible.now }
+    requires undecided { AreUndecidedLogs collection.now undecided.now }
     requires named { is_named collection.now uid ≡ true }
     ensures certain { result.certain.now ≡ certain_logs collection.now uid }
-    ensures possible { result.possible.now ≡ undecided_logs collection.now uid }
+    ensures undecided { result.undecided.now ≡ undecided_logs collection.now uid }
 {
     UidLogs {
         certain: collection.certain_in(uid),
-        possible: possible.logs_of(uid),
+        undecided: undecided.logs_of(uid),
     }
 }
 
 /// In which logs the UID of an item is.
 pub(crate) fn logs_of_item<'a>(
     collection: &'a Collection,
-    possible: &'a LogsByUid,
+    undecided: &'a LogsByUid,
     index: usize,
 ) -> UidLogs<'a>
     requires bound { index < length collection.now.catalogue.items }
-    requires possible { ArePossibleLogs collection.now possible.now }
+    requires undecided { AreUndecidedLogs collection.now undecided.now }
     ensures certain { IsSomeAnd (slice_get collection.now.catalogue.items index) (λ item.
         result.certain.now ≡ logs_by (certain_logs collection.now) item.uid) }
-    ensures possible { IsSomeAnd (slice_get collection.now.catalogue.items index) (λ item.
-        result.possible.now ≡ logs_by (undecided_logs collection.now) item.uid) }
+    ensures undecided { IsSomeAnd (slice_get collection.now.catalogue.items index) (λ item.
+        result.undecided.now ≡ logs_by (undecided_logs collection.now) item.uid) }
 {
     match collection.catalogue().uid(index) {
-        Some(uid) => logs_of_uid(collection, possible, uid),
+        Some(uid) => logs_of_uid(collection, undecided, uid),
         None => UidLogs {
             certain: &[],
-            possible: &[],
+            undecided: &[],
         },
     }
 }

@@ -6,6 +6,6 @@ use Rattle.vic_collection.specs.Collections.{CollectionValue, is_named, logs_in,
 
 -- rows have the logs in which UIDs are possible and not certain, for each that is of an item or
 -- certain
-abbrev pub ArePossibleLogs : CollectionValue → List LogOfUid → Type 0
-ArePossibleLogs c rows = (u : ℕ) → IsUid u → is_named c u ≡ true
+abbrev pub AreUndecidedLogs : CollectionValue → List LogOfUid → Type 0
+AreUndecidedLogs c rows = (u : ℕ) → IsUid u → is_named c u ≡ true
     → logs_in rows u ≡ undecided_logs c u

@@ -145,6 +145,6 @@ fn add_open_masks(masks: &mut Vec<Mask>, survey: &Survey) -> Result<(), AllocErr
             masks.push(Mask::default())?;
             Ok(())
         }
-        SurveyedField::Possible(seen) => masks.extend_from_slice(seen.open.as_slice()),
+        SurveyedField::Possible(facts) => masks.extend_from_slice(facts.open.as_slice()),
     }
 }

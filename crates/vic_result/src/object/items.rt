@@ -51,12 +51,12 @@ fn push_item_place(
 /// Appends in which logs a UID is.
 pub(crate) fn push_uid_logs(text: &mut Vec<u8>, logs: UidLogs<'_>) -> Result<(), AllocError>
     ensures { OnOk result (text.new.items ≡ text.old.items
-        ++ logs_json logs.entry.certain.now logs.entry.possible.now) }
+        ++ logs_json logs.entry.certain.now logs.entry.undecided.now) }
 {
     text.extend_from_slice(b",\"certain_in\":")?;
     push_positions(text, logs.certain)?;
     text.extend_from_slice(b",\"possible_in\":")?;
-    push_positions(text, logs.possible)
+    push_positions(text, logs.undecided)
 }
 
 /// Appends the cells of an item's row.
@@ -90,7 +90,7 @@ pub(crate) fn push_item(
     ensures { OnOk result (IsSomeAnd (slice_get catalogue.now.items index) (λ item.
         text.new.items ≡ text.old.items ++ item_json
         (separator_byte catalogue.now.columns.separator) item (state_name state)
-        logs.entry.certain.now logs.entry.possible.now)) }
+        logs.entry.certain.now logs.entry.undecided.now)) }
 {
     push_item_head(text, catalogue, index, state)?;
     push_item_place(text, catalogue, index)?;

@@ -110,35 +110,35 @@ fn push_log_masks(text: &mut Vec<u8>, masks: &OpenMasks) -> Result<(), AllocErro
     masks.more.push_json(text)
 }
 
-/// Appends how far a log reaches.
-fn push_log_reach(text: &mut Vec<u8>, seen: &FieldFacts) -> Result<(), AllocError>
-    ensures { OnOk result (text.new.items ≡ text.old.items ++ seen_reach_json seen.now) }
+/// Appends the margin of a log, its weakest mask, and what its hidden and its deaf reading open.
+fn push_log_margin(text: &mut Vec<u8>, facts: &FieldFacts) -> Result<(), AllocError>
+    ensures { OnOk result (text.new.items ≡ text.old.items ++ seen_reach_json facts.now) }
 {
     text.extend_from_slice(b",\"margin\":")?;
-    seen.margin.push_json(text)?;
+    facts.margin.push_json(text)?;
     text.extend_from_slice(b",\"weakest\":")?;
-    seen.weakest.push_json(text)?;
+    facts.weakest.push_json(text)?;
     text.extend_from_slice(b",\"hidden\":")?;
-    seen.hidden.push_json(text)?;
+    facts.hidden.push_json(text)?;
     text.extend_from_slice(b",\"deaf\":")?;
-    seen.deaf.push_json(text)
+    facts.deaf.push_json(text)
 }
 
 /// Appends what a possible log says.
-fn push_seen(
+fn push_field_facts(
     text: &mut Vec<u8>,
     collection: &Collection,
     masks: &OpenMasks,
-    seen: &FieldFacts,
+    facts: &FieldFacts,
 ) -> Result<(), AllocError>
     ensures { OnOk result (text.new.items ≡ text.old.items
-        ++ field_json collection.now masks.now (SurveyedField.Possible seen.now)) }
+        ++ field_json collection.now masks.now (SurveyedField.Possible facts.now)) }
 {
-    let certain = seen.certain.as_slice();
+    let certain = facts.certain.as_slice();
     let shared = shared_count(collection, certain);
-    push_log_counts(text, seen.answers, certain.len(), shared)?;
+    push_log_counts(text, facts.answers, certain.len(), shared)?;
     push_log_masks(text, masks)?;
-    push_log_reach(text, seen)?;
+    push_log_margin(text, facts)?;
     Ok(())
 }
 
@@ -154,7 +154,7 @@ fn push_field(
 {
     match field {
         SurveyedField::Refused { .. } | SurveyedField::Impossible { .. } => Ok(()),
-        SurveyedField::Possible(seen) => push_seen(text, collection, masks, seen),
+        SurveyedField::Possible(facts) => push_field_facts(text, collection, masks, facts),
     }
 }
 

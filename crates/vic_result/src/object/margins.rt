@@ -20,9 +20,9 @@ fn margin_of(log: usize, field: &SurveyedField) -> Option<LogMargin>
 {
     match field {
         SurveyedField::Refused { .. } | SurveyedField::Impossible { .. } => None,
-        SurveyedField::Possible(seen) => Some(LogMargin {
-            margin: seen.margin,
-            weakest: seen.weakest,
+        SurveyedField::Possible(facts) => Some(LogMargin {
+            margin: facts.margin,
+            weakest: facts.weakest,
             log,
         }),
     }

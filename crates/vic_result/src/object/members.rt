@@ -5,7 +5,7 @@ ghost use Rattle.std.specs.List.{AllZip};
 ghost use Rattle.vic_collection.specs.Findings.{AreOpenMasksOfSurvey};
 ghost use Rattle.vic_collection.specs.States.{state_of};
 ghost use Rattle.vic_result.specs.ResultObject.{IsLogText, answer_json, catalogue_json, items_json, lacking_json, logs_list_json, margin_json};
-ghost use Rattle.vic_result.specs.inner.ItemLogs.{ArePossibleLogs};
+ghost use Rattle.vic_result.specs.inner.ItemLogs.{AreUndecidedLogs};
 
 use crate::object::counts::push_counts;
 use crate::object::item_list::push_item_list;
@@ -73,16 +73,16 @@ pub(crate) fn push_catalogue(
 pub(crate) fn push_items_member(
     text: &mut Vec<u8>,
     collection: &Collection,
-    possible: &LogsByUid,
+    undecided: &LogsByUid,
     states: &[State],
     cells: &mut LineCells,
 ) -> Result<(), AllocError>
-    requires possible { ArePossibleLogs collection.now possible.now }
+    requires undecided { AreUndecidedLogs collection.now undecided.now }
     requires states { states.now ≡ map (state_of collection.now) collection.now.catalogue.items }
     ensures { OnOk result (text.new.items ≡ text.old.items ++ items_json collection.now) }
 {
     text.extend_from_slice(b",\"items\":[")?;
-    push_item_list(text, collection, possible, states, cells)?;
+    push_item_list(text, collection, undecided, states, cells)?;
     text.extend_from_slice(b"]")
 }
 

@@ -18,24 +18,24 @@ pub(crate) fn push_positions(text: &mut Vec<u8>, logs: &[usize]) -> Result<(), A
     text.extend_from_slice(b"[")?;
     if let Some((first, others)) = logs.split_first() {
         push_decimal(text, *first as u64)?;
-        push_other_positions(text, others)?;
+        push_next_positions(text, others)?;
     }
     text.extend_from_slice(b"]")
 }
 
 /// Appends positions, each behind a comma.
-fn push_other_positions(text: &mut Vec<u8>, logs: &[usize]) -> Result<(), AllocError>
+fn push_next_positions(text: &mut Vec<u8>, logs: &[usize]) -> Result<(), AllocError>
     ensures { OnOk result (text.new.items ≡ text.old.items
         ++ flat_map (λ v. codes "," ++ v) (map decimal logs.now)) }
 {
     for log in logs {
-        push_other_position(text, *log)?;
+        push_next_position(text, *log)?;
     }
     Ok(())
 }
 
 /// Appends a comma and a position.
-fn push_other_position(text: &mut Vec<u8>, log: usize) -> Result<(), AllocError>
+fn push_next_position(text: &mut Vec<u8>, log: usize) -> Result<(), AllocError>
     ensures { OnOk result (text.new.items ≡ text.old.items ++ (codes "," ++ decimal log)) }
 {
     text.extend_from_slice(b",")?;
@@ -81,24 +81,24 @@ fn push_cells(text: &mut Vec<u8>, cells: &LineCells) -> Result<(), AllocError>
     text.extend_from_slice(b"[")?;
     if cells.len() > 0 {
         push_json_string(text, cells.get(0))?;
-        push_other_cells(text, cells)?;
+        push_next_cells(text, cells)?;
     }
     text.extend_from_slice(b"]")
 }
 
 /// Appends all cells but the first, each behind a comma.
-fn push_other_cells(text: &mut Vec<u8>, cells: &LineCells) -> Result<(), AllocError>
+fn push_next_cells(text: &mut Vec<u8>, cells: &LineCells) -> Result<(), AllocError>
     ensures { OnOk result (text.new.items ≡ text.old.items
         ++ flat_map (λ v. codes "," ++ v) (map json_string (drop 1 cells.now))) }
 {
     for index in 1..cells.len() {
-        push_other_cell(text, cells.get(index))?;
+        push_next_string(text, cells.get(index))?;
     }
     Ok(())
 }
 
-/// Appends a comma and a cell.
-fn push_other_cell(text: &mut Vec<u8>, cell: &[u8]) -> Result<(), AllocError>
+/// Appends a comma and a string.
+fn push_next_string(text: &mut Vec<u8>, cell: &[u8]) -> Result<(), AllocError>
     ensures { OnOk result (text.new.items ≡ text.old.items ++ (codes "," ++ json_string cell.now)) }
 {
     text.extend_from_slice(b",")?;
@@ -113,18 +113,18 @@ pub(crate) fn push_strings(text: &mut Vec<u8>, values: &[&[u8]]) -> Result<(), A
     text.extend_from_slice(b"[")?;
     if let Some((first, others)) = values.split_first() {
         push_json_string(text, first)?;
-        push_other_strings(text, others)?;
+        push_next_strings(text, others)?;
     }
     text.extend_from_slice(b"]")
 }
 
 /// Appends strings, each behind a comma.
-fn push_other_strings(text: &mut Vec<u8>, values: &[&[u8]]) -> Result<(), AllocError>
+fn push_next_strings(text: &mut Vec<u8>, values: &[&[u8]]) -> Result<(), AllocError>
     ensures { OnOk result (text.new.items ≡ text.old.items
         ++ flat_map (λ v. codes "," ++ v) (map json_string (map (λ v. v.now) values.now))) }
 {
     for value in values {
-        push_other_cell(text, value)?;
+        push_next_string(text, value)?;
     }
     Ok(())
 }

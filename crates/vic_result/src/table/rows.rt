@@ -32,7 +32,7 @@ pub(crate) fn push_item_row(
         text.new.items ≡ text.old.items ++ (item.row
         ++ cells_text (separator_byte catalogue.now.columns.separator)
         (state_name state ∷ names_text (names_at surveys.now logs.entry.certain.now)
-        ∷ names_text (names_at surveys.now logs.entry.possible.now) ∷ [])
+        ∷ names_text (names_at surveys.now logs.entry.undecided.now) ∷ [])
         ++ catalogue.now.head_end))) }
 {
     let separator = catalogue.columns().separator.byte();
@@ -54,7 +54,7 @@ pub(crate) fn push_unlisted_row(
     ensures { OnOk result (text.new.items ≡ text.old.items ++ (row_of_uid catalogue.now.columns uid
         ++ cells_text (separator_byte catalogue.now.columns.separator)
         (codes "unexpected" ∷ names_text (names_at surveys.now logs.entry.certain.now)
-        ∷ names_text (names_at surveys.now logs.entry.possible.now) ∷ [])
+        ∷ names_text (names_at surveys.now logs.entry.undecided.now) ∷ [])
         ++ catalogue.now.head_end)) }
 {
     let columns = catalogue.columns();

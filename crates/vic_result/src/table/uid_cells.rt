@@ -22,15 +22,15 @@ pub(crate) fn push_uid_cells(
 ) -> Result<(), AllocError>
     ensures { OnOk result (text.new.items ≡ text.old.items ++ cells_text separator
         (state.now ∷ names_text (names_at surveys.now logs.entry.certain.now)
-        ∷ names_text (names_at surveys.now logs.entry.possible.now) ∷ [])) }
+        ∷ names_text (names_at surveys.now logs.entry.undecided.now) ∷ [])) }
 {
     push_cell(text, separator, state)?;
-    push_names(alloc, text, separator, surveys, logs.certain)?;
-    push_names(alloc, text, separator, surveys, logs.possible)
+    push_names_cell(alloc, text, separator, surveys, logs.certain)?;
+    push_names_cell(alloc, text, separator, surveys, logs.undecided)
 }
 
 /// Appends a separator, and a cell of the names of the logs at some positions.
-fn push_names(
+fn push_names_cell(
     alloc: Global,
     text: &mut Vec<u8>,
     separator: u8,
@@ -55,24 +55,24 @@ fn names_of(alloc: Global, surveys: &[Survey], logs: &[usize]) -> Result<Vec<u8>
     let mut text = Vec::new(alloc);
     if let Some((first, others)) = logs.split_first() {
         text.extend_from_slice(name_at(surveys, *first))?;
-        push_others(&mut text, surveys, others)?;
+        push_next_names(&mut text, surveys, others)?;
     }
     Ok(text)
 }
 
 /// Appends the names of the logs at some positions, each behind `; `.
-fn push_others(text: &mut Vec<u8>, surveys: &[Survey], logs: &[usize]) -> Result<(), AllocError>
+fn push_next_names(text: &mut Vec<u8>, surveys: &[Survey], logs: &[usize]) -> Result<(), AllocError>
     ensures { OnOk result (text.new.items ≡ text.old.items
         ++ flat_map (λ name. codes "; " ++ name) (names_at surveys.now logs.now)) }
 {
     for log in logs {
-        push_other(text, name_at(surveys, *log))?;
+        push_next_name(text, name_at(surveys, *log))?;
     }
     Ok(())
 }
 
 /// Appends `; ` and a name.
-fn push_other(text: &mut Vec<u8>, name: &[u8]) -> Result<(), AllocError>
+fn push_next_name(text: &mut Vec<u8>, name: &[u8]) -> Result<(), AllocError>
     ensures { OnOk result (text.new.items ≡ text.old.items ++ (codes "; " ++ name.now)) }
 {
     text.extend_from_slice(b"; ")?;

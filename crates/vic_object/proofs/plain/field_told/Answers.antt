@@ -16,7 +16,7 @@ returns c =
     record {
       certain = certain_are lines facts.«open» facts.certain _ told (c.in_ok-from_slice.ensures.items ∙ c.as_slice.ensures.value);
       all = counted.all;
-      are_all = masks_are lines facts.«open» facts.certain c.args.keys.now counted.all told c.requires.keys counted.are_all;
+      are_all = masks_are lines facts.«open» facts.certain c.args.certain_keys.now counted.all told c.requires.certain_keys counted.are_all;
       masks = counted.count;
       uids = counted.uids;
       asked = c.in_ok-asked_masks.ensures.masks ∙ first;

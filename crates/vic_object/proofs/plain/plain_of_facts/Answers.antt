@@ -5,14 +5,14 @@ use Rattle.vic_object.specs.Told.{IsWeakestIfComplete}
 use Rattle.vic_object.proofs.FieldMade.{certain_list}
 use Rattle.vic_object.proofs.plain.plain_of_facts.Goals as goal
 
-pub field_told-requires-clause-keys : goal.field_told-requires-clause-keys
-field_told-requires-clause-keys c = subst (AreKeysOf c.in_ok-keys.keys) c.as_slice.ensures.value c.in_ok-keys.ensures
+pub field_told-requires-clause-certain_keys : goal.field_told-requires-clause-certain_keys
+field_told-requires-clause-certain_keys c = subst (AreKeysOf c.in_ok-certain_keys.certain_keys) c.as_slice.ensures.value c.in_ok-certain_keys.ensures
 
-pub returns-clause-keys : goal.returns-clause-keys
-returns-clause-keys c = (
+pub returns-clause-certain_keys : goal.returns-clause-certain_keys
+returns-clause-certain_keys c = (
   c.args.facts.certain,
   certain_list c.args.log.now.lines c.args.facts.«open» c.args.facts.certain c.requires.facts.told,
-  subst (AreKeysOf c.in_ok-keys.keys) c.as_slice.ensures.value c.in_ok-keys.ensures,
+  subst (AreKeysOf c.in_ok-certain_keys.certain_keys) c.as_slice.ensures.value c.in_ok-certain_keys.ensures,
 )
 
 pub returns-clause-weakest : goal.returns-clause-weakest

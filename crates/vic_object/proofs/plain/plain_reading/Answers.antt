@@ -12,7 +12,7 @@ returns-in_ok-conflict-in-Err-clause-field c =
     let lines = c.args.log.now.lines in
     let told = rw c.in-Err.is at c.in_ok-facts.ensures.facts in
     let never : IsPossible (entries lines) → ⊥ = λ p. told.0 (possible_to lines c.in_ok-facts.ensures.log.rising p c.in-Err.line) in
-    let none = c.nothing.ensures in
+    let none = c.no_field.ensures in
     record {
       certain = (λ p. absurd (never p), λ n. none.certain);
       all = [];
@@ -23,7 +23,7 @@ returns-in_ok-conflict-in-Err-clause-field c =
       requests = rw none.asked refl;
     }
 
-pub returns-in_ok-conflict-in-Err-clause-keys : goal.returns-in_ok-conflict-in-Err-clause-keys
-returns-in_ok-conflict-in-Err-clause-keys c =
+pub returns-in_ok-conflict-in-Err-clause-certain_keys : goal.returns-in_ok-conflict-in-Err-clause-certain_keys
+returns-in_ok-conflict-in-Err-clause-certain_keys c =
     let told = rw c.in-Err.is at c.in_ok-facts.ensures.facts in
     λ p. told.0 (possible_to c.args.log.now.lines c.in_ok-facts.ensures.log.rising p c.in-Err.line)

@@ -10,8 +10,8 @@ pub returns-in-Err : goal.returns-in-Err
 returns-in-Err g c =
     let nothing : c.in-Err.fault ≡ UsageFault → (asked : Asked) → Ask (map string_bytes c.args.words.items) asked → ⊥ = search rules in
     record {
-      end = Err (line_of c.no_request.result);
-      ran = no_request_runs _ _ _ _ _ _ _ c.in-Err.fault nothing (ap as_end c.no_request.ensures);
-      code_is = c.end-in-Err.ensures.code;
-      says = c.end-in-Err.ensures.says;
+      end = Err (line_of c.no_answer_for_words.result);
+      ran = no_request_runs _ _ _ _ _ _ _ c.in-Err.fault nothing (ap as_end c.no_answer_for_words.ensures);
+      code_is = c.say_end-in-Err.ensures.code;
+      says = c.say_end-in-Err.ensures.says;
     }

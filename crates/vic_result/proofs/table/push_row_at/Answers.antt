@@ -22,10 +22,10 @@ returns c =
     let item = found.0 in
     let state = state_there C c.args.states.now c.args.index item c.state_at-state.result c.requires.states found.1 c.state_at-state.ensures in
     let certain = some_at _ (λ (x : ItemValue). logs.certain.now ≡ logs_by (certain_logs C) x.uid) item found.1 c.logs_of_item-logs.ensures.certain in
-    let possible = some_at _ (λ (x : ItemValue). logs.possible.now ≡ logs_by (undecided_logs C) x.uid) item found.1 c.logs_of_item-logs.ensures.possible in
-    let Pushed = λ (k : CatalogueValue) (surveys : List SurveyValue). IsSomeAnd (slice_get k.items c.args.index) (λ (x : ItemValue). c.push_item_row.new.text.items ≡ t ++ (x.row ++ cells_text (separator_byte k.columns.separator) (state_name c.state_at-state.result ∷ names_text (names_at surveys logs.certain.now) ∷ names_text (names_at surveys logs.possible.now) ∷ []) ++ k.head_end)) in
+    let undecided = some_at _ (λ (x : ItemValue). logs.undecided.now ≡ logs_by (undecided_logs C) x.uid) item found.1 c.logs_of_item-logs.ensures.undecided in
+    let Pushed = λ (k : CatalogueValue) (surveys : List SurveyValue). IsSomeAnd (slice_get k.items c.args.index) (λ (x : ItemValue). c.push_item_row.new.text.items ≡ t ++ (x.row ++ cells_text (separator_byte k.columns.separator) (state_name c.state_at-state.result ∷ names_text (names_at surveys logs.certain.now) ∷ names_text (names_at surveys logs.undecided.now) ∷ []) ++ k.head_end)) in
     let by_value : Pushed C.catalogue C.surveys = subst (Pushed C.catalogue) c.surveys-surveys.ensures (subst (λ (k : CatalogueValue). Pushed k c.surveys-surveys.result.now) c.catalogue-catalogue.ensures c.in_ok-push_item_row.ensures) in
-    let pushed = some_at (slice_get C.catalogue.items c.args.index) (λ (x : ItemValue). c.push_item_row.new.text.items ≡ t ++ (x.row ++ cells_text separator (state_name c.state_at-state.result ∷ names_text (names_at C.surveys logs.certain.now) ∷ names_text (names_at C.surveys logs.possible.now) ∷ []) ++ C.catalogue.head_end)) item found.1 by_value in
-    let cells : (state_name c.state_at-state.result ∷ names_text (names_at C.surveys logs.certain.now) ∷ names_text (names_at C.surveys logs.possible.now) ∷ []) ≡ cells_by C (state_name (state_of C item)) item.uid = rw (state, certain, possible) (cells_by-at C (state_name (state_of C item)) item.uid) in
+    let pushed = some_at (slice_get C.catalogue.items c.args.index) (λ (x : ItemValue). c.push_item_row.new.text.items ≡ t ++ (x.row ++ cells_text separator (state_name c.state_at-state.result ∷ names_text (names_at C.surveys logs.certain.now) ∷ names_text (names_at C.surveys logs.undecided.now) ∷ []) ++ C.catalogue.head_end)) item found.1 by_value in
+    let cells : (state_name c.state_at-state.result ∷ names_text (names_at C.surveys logs.certain.now) ∷ names_text (names_at C.surveys logs.undecided.now) ∷ []) ≡ cells_by C (state_name (state_of C item)) item.uid = rw (state, certain, undecided) (cells_by-at C (state_name (state_of C item)) item.uid) in
     some_and _ (λ (x : ItemValue). c.push_item_row.new.text.items ≡ t ++ (item_row C x ++ C.catalogue.head_end)) item found.1
     (pushed ∙ ap (λ cs. t ++ (item.row ++ cells_text separator cs ++ C.catalogue.head_end)) cells)

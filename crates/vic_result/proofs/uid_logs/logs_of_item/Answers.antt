@@ -21,10 +21,10 @@ returns-in-Some-clause-certain c =
     some_and _ (λ (item : ItemValue). c.logs_of_uid.result.certain.now ≡ logs_by (certain_logs C) item.uid) found.0 found.1
     (c.logs_of_uid.ensures.certain ∙ ap (logs_by (certain_logs C)) (sym c.in-Some.is ∙ uid))
 
-pub returns-in-Some-clause-possible : goal.returns-in-Some-clause-possible
-returns-in-Some-clause-possible c =
+pub returns-in-Some-clause-undecided : goal.returns-in-Some-clause-undecided
+returns-in-Some-clause-undecided c =
     let C = c.args.collection.now in
     let found = item_at C.catalogue.items c.args.index c.requires.bound in
     let uid = some_at _ (λ (item : ItemValue). c.uid.result ≡ item.uid) found.0 found.1 (rw c.catalogue.ensures at c.uid.ensures) in
-    some_and _ (λ (item : ItemValue). c.logs_of_uid.result.possible.now ≡ logs_by (undecided_logs C) item.uid) found.0 found.1
-    (c.logs_of_uid.ensures.possible ∙ ap (logs_by (undecided_logs C)) (sym c.in-Some.is ∙ uid))
+    some_and _ (λ (item : ItemValue). c.logs_of_uid.result.undecided.now ≡ logs_by (undecided_logs C) item.uid) found.0 found.1
+    (c.logs_of_uid.ensures.undecided ∙ ap (logs_by (undecided_logs C)) (sym c.in-Some.is ∙ uid))

@@ -19,9 +19,9 @@ returns c =
     let item = found.0 in
     let state = state_there C c.args.states.now c.args.index item c.state_at-state.result c.requires.states found.1 c.state_at-state.ensures in
     let certain = some_at _ (λ (x : ItemValue). logs.certain.now ≡ logs_by (certain_logs C) x.uid) item found.1 c.logs_of_item-logs.ensures.certain in
-    let possible = some_at _ (λ (x : ItemValue). logs.possible.now ≡ logs_by (undecided_logs C) x.uid) item found.1 c.logs_of_item-logs.ensures.possible in
-    let Pushed = λ (k : CatalogueValue). IsSomeAnd (slice_get k.items c.args.index) (λ (x : ItemValue). c.push_item.new.text.items ≡ t ++ item_json (separator_byte k.columns.separator) x (state_name c.state_at-state.result) logs.certain.now logs.possible.now) in
+    let undecided = some_at _ (λ (x : ItemValue). logs.undecided.now ≡ logs_by (undecided_logs C) x.uid) item found.1 c.logs_of_item-logs.ensures.undecided in
+    let Pushed = λ (k : CatalogueValue). IsSomeAnd (slice_get k.items c.args.index) (λ (x : ItemValue). c.push_item.new.text.items ≡ t ++ item_json (separator_byte k.columns.separator) x (state_name c.state_at-state.result) logs.certain.now logs.undecided.now) in
     let by_value : Pushed C.catalogue = subst Pushed c.catalogue.ensures c.in_ok-push_item.ensures in
-    let pushed = some_at (slice_get C.catalogue.items c.args.index) (λ (x : ItemValue). c.push_item.new.text.items ≡ t ++ item_json separator x (state_name c.state_at-state.result) logs.certain.now logs.possible.now) item found.1 by_value in
-    let same : item_json separator item (state_name c.state_at-state.result) logs.certain.now logs.possible.now ≡ item_of_json C item = rw (state, certain, possible) refl in
+    let pushed = some_at (slice_get C.catalogue.items c.args.index) (λ (x : ItemValue). c.push_item.new.text.items ≡ t ++ item_json separator x (state_name c.state_at-state.result) logs.certain.now logs.undecided.now) item found.1 by_value in
+    let same : item_json separator item (state_name c.state_at-state.result) logs.certain.now logs.undecided.now ≡ item_of_json C item = rw (state, certain, undecided) refl in
     some_and _ (λ (x : ItemValue). c.push_item.new.text.items ≡ t ++ item_of_json C x) item found.1 (pushed ∙ ap (λ s. t ++ s) same)

@@ -14,7 +14,7 @@ returns c =
     let C = c.args.collection.now in
     let u = c.args.uid in
     let uid = then_piece t (codes "{\"uid\":") (json_uid u) c.in_ok-extend_from_slice.ensures.items c.in_ok-push_json.ensures in
-    let logs_are : logs_json c.logs_of_uid-logs.result.certain.now c.logs_of_uid-logs.result.possible.now ≡ logs_json (certain_logs C u) (undecided_logs C u) = rw (c.logs_of_uid-logs.ensures.certain, c.logs_of_uid-logs.ensures.possible) refl in
+    let logs_are : logs_json c.logs_of_uid-logs.result.certain.now c.logs_of_uid-logs.result.undecided.now ≡ logs_json (certain_logs C u) (undecided_logs C u) = rw (c.logs_of_uid-logs.ensures.certain, c.logs_of_uid-logs.ensures.undecided) refl in
     let logs = then_piece t _ (logs_json (certain_logs C u) (undecided_logs C u)) uid (c.in_ok-push_uid_logs.ensures ∙ ap (λ s. c.push_json.new.text.items ++ s) logs_are) in
     let line = then_piece t _ (decimal c.args.line) (then_piece t _ (codes ",\"line\":") logs c.in_ok-extend_from_slice-2.ensures.items) (c.in_ok-push_decimal.ensures ∙ ap (λ n. c.extend_from_slice-2.new.self.items ++ decimal n) c.from.ensures) in
     then_piece t _ (codes "}") line c.in_ok-extend_from_slice-3.ensures.items

@@ -16,5 +16,5 @@ returns c =
     let head = some_at _ (λ (item : ItemValue). c.push_item_head.new.text.items ≡ t ++ item_head_json item state) found.0 found.1 c.in_ok-push_item_head.ensures in
     let place = some_at _ (λ (item : ItemValue). c.push_item_place.new.text.items ≡ c.push_item_head.new.text.items ++ item_place_json item) found.0 found.1 c.in_ok-push_item_place.ensures in
     let row = some_at _ (λ (item : ItemValue). c.push_item_cells.new.text.items ≡ c.push_uid_logs.new.text.items ++ row_json separator item.row) found.0 found.1 c.in_ok-push_item_cells.ensures in
-    some_and _ (λ (item : ItemValue). c.push_item_cells.new.text.items ≡ t ++ item_json separator item state c.args.logs.certain.now c.args.logs.possible.now) found.0 found.1
-    (four_parts t (item_head_json found.0 state) (item_place_json found.0) (logs_json c.args.logs.certain.now c.args.logs.possible.now) (row_json separator found.0.row) head place c.in_ok-push_uid_logs.ensures row)
+    some_and _ (λ (item : ItemValue). c.push_item_cells.new.text.items ≡ t ++ item_json separator item state c.args.logs.certain.now c.args.logs.undecided.now) found.0 found.1
+    (four_parts t (item_head_json found.0 state) (item_place_json found.0) (logs_json c.args.logs.certain.now c.args.logs.undecided.now) (row_json separator found.0.row) head place c.in_ok-push_uid_logs.ensures row)

@@ -1,6 +1,0 @@
-use Rattle.std.proofs.Common.{◌≡◌, ◌++◌, map, take}
-use Rattle.vic_object.specs.declared.finding.FindingTold.TheVariants.{Doubtful}
-use Rattle.vic_object.proofs.finding.push_doubtful_of.Given as goal
-
-abbrev pub invariant-loop-uid : goal.invariant-loop-uid
-invariant-loop-uid l = l.found.items ≡ l.fn.found.items ++ map Doubtful (take l.uid-index l.doubtful)
