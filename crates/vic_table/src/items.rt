@@ -164,8 +164,8 @@ fn row_item(
     })
 }
 
-/// The first fault of a row: of its cells' number, of its cell `uid` by itself, or of a UID in another
-/// cell. The UID that the cell `uid` spells is given.
+/// The first fault of a row: of its cells' number, of its cell `uid` by itself, or of a UID in
+/// another cell. The UID that the cell `uid` spells is given.
 fn shape_fault(
     columns: &CatalogueColumns,
     cells: &LineCells,
