@@ -42,7 +42,7 @@ HasSilenced which old new =
     (u : ℕ) → IsUid u → readiness new u
     ≡ (if which u then option_map (λ _. false) (readiness old u) else readiness old u)
 
--- an outcome, as a field reports it
+-- an outcome of `vic_log`, as a field reports it: `Told` is the `Outcome` of this crate's code
 abbrev pub told : Outcome → Told
 told Nobody = ToldSilent
 told (Lone u) = ToldLone u

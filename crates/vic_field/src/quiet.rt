@@ -146,7 +146,7 @@ impl QuietPositions {
     }
 }
 
-/// Makes words blank.
+/// Makes words blank, so that no bit is set in any stretch.
 fn forget(words: &mut Vec<Word>)
     ensures blank { AreUpTo 0 words.new.items }
     ensures size { length words.new.items ≡ length words.old.items }

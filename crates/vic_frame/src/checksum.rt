@@ -38,8 +38,9 @@ pub fn crc_right(bytes: &[u8]) -> bool
     number_of(end) == u64::from(crc(body))
 }
 
-/// The register after two more bytes. Neither lookup waits for the other, so the step takes no
-/// longer than one.
+/// The register after two more bytes. A step is linear: so the first byte and the register's low
+/// half go through by themselves, as do the second byte and the high half, each by a table. Neither
+/// lookup waits for the other, so the step takes no longer than one.
 fn after_two_bytes(register: u16, first: u8, second: u8) -> u16
     ensures { result
         ≡ spec.after_bits (spec.after_bits register (bits_of 8 first)) (bits_of 8 second) }

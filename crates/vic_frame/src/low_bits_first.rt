@@ -146,7 +146,8 @@ pub fn mask_of_keys(first: u64, len: u8) -> Mask
     Mask::of_bits(len, turn_round(first).number())
 }
 
-/// The 56 low bits of a number in reverse order, so that the lowest becomes the highest.
+/// The 56 low bits of a number in reverse order, so that the lowest becomes the highest (`mirror`
+/// in definitions).
 fn turn_round(number: u64) -> UidKey
     ensures { result ≡ mirror number }
 {

@@ -3,50 +3,23 @@
 use std::alloc::{AllocError, Global};
 use vic_frame::{Request, Uid};
 use vic_log::{Entry, PackedLine};
-use vic_walk::{LogParts, Span};
+use vic_walk::{LogParts, Span, Step};
 
 /// What a line does.
 #[derive(Clone, Copy)]
 pub(crate) enum Effect {
-    /// A part that was Ready is silenced.
-    Quiet(usize),
-    /// All are Ready again.
+    /// A Stay Quiet silences a part that was Ready.
+    Quiet { part: usize },
+    /// A field cycle makes all parts Ready again.
     Wake,
-    /// A slot, by the number of its line, rules out the parts in its mask that are Ready, except
-    /// for the one that was heard. If none was, it is the end of the mask's parts.
-    Ruling(u32, Span, usize),
-    /// A slot, by the number of its line, in whose mask these parts are, and in which this one was
-    /// heard, alone or among others.
-    Captured(u32, Span, usize),
-    /// An unread slot: the position of its line, and the parts in its mask.
-    Unread(usize, Span),
-}
-
-/// What the entry of a line does, whose position and number are given, by the parts that it
-/// concerns.
-fn effect_of(at: usize, number: u32, entry: &Entry, of: vic_walk::Step) -> Option<Effect> {
-    let (span, own) = (of.span(), of.own());
-    match *entry {
-        Entry::Silent => Some(Effect::Ruling(number, span, span.to)),
-        Entry::Heard(_) => Some(Effect::Ruling(number, span, own)),
-        Entry::Captured(_) => Some(Effect::Captured(number, span, own)),
-        Entry::Collision | Entry::Garbled => Some(Effect::Unread(at, span)),
-        Entry::FieldCycle => Some(Effect::Wake),
-        Entry::Sent(Request::StayQuiet { uid, .. }) => Uid::new(uid).map(|_| Effect::Quiet(own)),
-        Entry::Sent(Request::Inventory { .. }) | Entry::Unknown | Entry::Listed(_) => None,
-    }
-}
-
-/// Whether a part that is silenced was Ready. The stretch in which it was silenced, counted from 1,
-/// is noted.
-fn was_ready(silenced: &mut [u32], part: usize, stretch: u32) -> bool {
-    match silenced.get_mut(part) {
-        Some(last) if *last < stretch => {
-            *last = stretch;
-            true
-        }
-        _ => false,
-    }
+    /// A slot, by the number of its line, rules out the parts of its mask that are Ready, except
+    /// for the one that was heard. If none was, `heard` is the end of the mask's parts.
+    Ruling { line: u32, mask: Span, heard: usize },
+    /// A slot, by the number of its line, in whose mask a part was heard, alone or among others: it
+    /// rules out none.
+    Captured { line: u32, mask: Span, heard: usize },
+    /// An unread slot: the position of its line, and the parts of its mask.
+    Unread { position: usize, mask: Span },
 }
 
 /// What the lines of a log do. What is Quiet isn't silenced again.
@@ -58,10 +31,10 @@ pub(crate) fn effects_of(
     let mut silenced = vec![in alloc; 0; log_parts.parts.count()]?;
     let mut stretch: u32 = 1;
     let mut effects = Vec::new(alloc);
-    for (at, (line, of)) in lines.iter().zip(&log_parts.steps).enumerate() {
-        match effect_of(at, line.number(), &line.item(), *of) {
+    for (position, (line, step)) in lines.iter().zip(&log_parts.steps).enumerate() {
+        match effect_of(position, line.number(), &line.item(), *step) {
             None => {}
-            Some(Effect::Quiet(part)) if !was_ready(&mut silenced, part, stretch) => {}
+            Some(Effect::Quiet { part }) if !note_silenced(&mut silenced, part, stretch) => {}
             Some(effect) => {
                 effects.push(effect)?;
                 if let Effect::Wake = effect {
@@ -71,4 +44,45 @@ pub(crate) fn effects_of(
         }
     }
     Ok(effects)
+}
+
+/// What an entry does, by the position and the number of its line, and the parts that it concerns.
+fn effect_of(position: usize, line: u32, entry: &Entry, step: Step) -> Option<Effect> {
+    let mask = step.span();
+    let named = step.own();
+    match *entry {
+        Entry::Silent => Some(Effect::Ruling {
+            line,
+            mask,
+            heard: mask.to,
+        }),
+        Entry::Heard(_) => Some(Effect::Ruling {
+            line,
+            mask,
+            heard: named,
+        }),
+        Entry::Captured(_) => Some(Effect::Captured {
+            line,
+            mask,
+            heard: named,
+        }),
+        Entry::Collision | Entry::Garbled => Some(Effect::Unread { position, mask }),
+        Entry::FieldCycle => Some(Effect::Wake),
+        Entry::Sent(Request::StayQuiet { uid, .. }) => {
+            Uid::new(uid).map(|_| Effect::Quiet { part: named })
+        }
+        Entry::Sent(Request::Inventory { .. }) | Entry::Unknown | Entry::Listed(_) => None,
+    }
+}
+
+/// Notes that a part is silenced, by the number of the stretch between two field cycles, from 1. It
+/// returns whether the part was Ready.
+fn note_silenced(silenced: &mut [u32], part: usize, stretch: u32) -> bool {
+    match silenced.get_mut(part) {
+        Some(last) if *last < stretch => {
+            *last = stretch;
+            true
+        }
+        _ => false,
+    }
 }

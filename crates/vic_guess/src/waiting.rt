@@ -6,11 +6,14 @@ use crate::effects::Effect;
 use std::alloc::{AllocError, Global};
 use vic_walk::{Marks, Span};
 
-/// Parts that wait, and those of them that are Ready.
+/// The parts, of so many, that wait for a line to rule them out; a line rules out only those that
+/// are Ready.
 #[derive(Drop)]
 pub(crate) struct Waiting {
     count: usize,
+    /// The parts that wait.
     waits: Marks,
+    /// Those of them that are Ready.
     ready: Marks,
     ghost room_waits: { length waits ≡ count },
     ghost room_ready: { length ready ≡ count },
@@ -26,25 +29,25 @@ impl Waiting {
         })
     }
 
-    /// Of so many parts those of a span, all Ready, except for those that some effects silenced
-    /// since all were last made Ready.
+    /// Those that could answer in an unread slot, as they are before the first line: the parts of
+    /// the slot's mask, without those that are Quiet after the effects before the slot.
     pub(crate) fn new(
         alloc: Global,
         count: usize,
-        span: Span,
-        effects: &[Effect],
+        mask: Span,
+        before: &[Effect],
     ) -> Result<Waiting, AllocError> {
         let mut waiting = Waiting::none(alloc, count)?;
-        for part in span.from..span.to {
+        for part in mask.from..mask.to {
             waiting.add(part);
         }
-        waiting.hide_last(effects);
-        waiting.leave_ready();
+        waiting.silence_as_after(before);
+        waiting.retain_ready();
         Ok(waiting)
     }
 
     /// The same parts that wait, all Ready.
-    fn again(&self, alloc: Global) -> Result<Waiting, AllocError> {
+    fn all_ready(&self, alloc: Global) -> Result<Waiting, AllocError> {
         let mut waiting = Waiting::none(alloc, self.count)?;
         for part in 0..self.count {
             if self.has(part) {
@@ -63,7 +66,7 @@ impl Waiting {
     }
 
     /// Takes out the parts that aren't Ready.
-    fn leave_ready(&mut self) {
+    fn retain_ready(&mut self) {
         for part in 0..self.count {
             if part < self.count && !self.ready.has(part) {
                 self.waits.take(part);
@@ -77,73 +80,77 @@ impl Waiting {
     }
 
     /// Makes a part Ready, if it waits.
-    fn show(&mut self, part: usize) {
+    fn wake(&mut self, part: usize) {
         if part < self.count && self.has(part) {
             self.ready.put(part);
         }
     }
 
-    /// Makes those of some parts Ready that wait.
-    pub(crate) fn show_all(&mut self, parts: &[usize]) {
+    /// Makes those of some parts Ready that wait, as a field cycle does.
+    pub(crate) fn wake_all(&mut self, parts: &[usize]) {
         for part in parts {
-            self.show(*part);
+            self.wake(*part);
         }
     }
 
     /// Makes a part Quiet.
-    pub(crate) fn hide(&mut self, part: usize) {
+    pub(crate) fn silence(&mut self, part: usize) {
         if part < self.count {
             self.ready.take(part);
         }
     }
 
-    /// Makes those parts Quiet that some effects silenced since all were last made Ready.
-    fn hide_last(&mut self, effects: &[Effect]) {
+    /// Makes those parts Quiet that are Quiet after some effects: silenced since the last field
+    /// cycle among them.
+    fn silence_as_after(&mut self, effects: &[Effect]) {
         for effect in effects.iter().rev() {
             match *effect {
-                Effect::Quiet(part) => self.hide(part),
+                Effect::Quiet { part } => self.silence(part),
                 Effect::Wake => return,
-                Effect::Ruling(..) | Effect::Captured(..) | Effect::Unread(..) => {}
+                Effect::Ruling { .. } | Effect::Captured { .. } | Effect::Unread { .. } => {}
             }
         }
     }
 
-    /// Takes out the parts of a span that wait and are Ready, except for one, and returns them.
-    pub(crate) fn take_others(
+    /// Takes out the parts that a slot rules out: those of its mask that wait and are Ready, except
+    /// for the one that was heard. Returns them.
+    pub(crate) fn rule_out(
         &mut self,
         alloc: Global,
-        span: Span,
-        own: usize,
+        mask: Span,
+        heard: usize,
     ) -> Result<Vec<usize>, AllocError> {
-        let mut taken = Vec::new(alloc);
-        let mut from = span.from;
-        while let Some(part) = self.ready.first(from, span.to) {
-            if part != own && part < self.count {
+        let mut ruled_out = Vec::new(alloc);
+        let mut from = mask.from;
+        while let Some(part) = self.ready.first(from, mask.to) {
+            if part != heard && part < self.count {
                 self.waits.take(part);
                 self.ready.take(part);
-                taken.push(part)?;
+                ruled_out.push(part)?;
             }
             from = part + 1;
         }
-        Ok(taken)
+        Ok(ruled_out)
     }
 
-    /// For each of so many parts, the last line that rules it out if it waits; 0 if none does.
-    pub(crate) fn last_rulings(
+    /// For each part the number of the last line that rules it out; 0 if none does, or it doesn't
+    /// wait. The effects are gone through from the last one back: so a Stay Quiet makes its part
+    /// Ready, and a field cycle makes those Quiet that it had made Ready.
+    pub(crate) fn last_lines(
         &self,
         alloc: Global,
         effects: &[Effect],
     ) -> Result<Vec<u32>, AllocError> {
         let mut last = vec![in alloc; 0; self.count]?;
-        let mut waiting = self.again(alloc)?;
-        waiting.hide_last(effects);
+        let mut waiting = self.all_ready(alloc)?;
+        waiting.silence_as_after(effects);
         for index in (0..effects.len()).rev() {
             match effects[index] {
-                Effect::Quiet(part) => waiting.show(part),
-                Effect::Wake => waiting.hide_last(&effects[..index]),
-                Effect::Captured(..) | Effect::Unread(..) => {}
-                Effect::Ruling(line, span, own) => {
-                    for part in &waiting.take_others(alloc, span, own)? {
+                Effect::Quiet { part } => waiting.wake(part),
+                Effect::Wake => waiting.silence_as_after(&effects[..index]),
+                Effect::Captured { .. } | Effect::Unread { .. } => {}
+                Effect::Ruling { line, mask, heard } => {
+                    for part in &waiting.rule_out(alloc, mask, heard)? {
                         note(&mut last, *part, line);
                     }
                 }

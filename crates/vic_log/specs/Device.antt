@@ -71,9 +71,11 @@ HasTakenBut old new rest text = (sent : List ℕ) × Appends old new sent × (se
 abbrev pub HasWrittenPrefix : List ℕ → List ℕ → List ℕ → Type 0
 HasWrittenPrefix old new bytes = HasTakenPrefix (Some old) (Some new) bytes
 
+-- and about the text without the rest
 abbrev pub HasWrittenBut : List ℕ → List ℕ → List ℕ → List ℕ → Type 0
 HasWrittenBut old new rest text = HasTakenBut (Some old) (Some new) rest text
 
+-- the std reader or writer of a device over one
 abbrev pub from_read_inner : {R : Type 0} → FromRead R → R
 from_read_inner r = r.inner
 

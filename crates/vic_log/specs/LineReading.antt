@@ -21,6 +21,7 @@ use Rattle.vic_log.specs.declared.fault.LineFault.TheVariants.{LineTooLong, Unkn
 abbrev pub is_passed_over : List ℕ → Bool
 is_passed_over line = length line == 0 || slice_index line 0 == byte "#"
 
+-- the entries of a request's and of a reply's frame, or the frame's fault
 abbrev pub sent : Result Request FrameFault → Result (Option Entry) LineFault
 sent (Ok q) = Ok (Some (Sent q))
 sent (Err f) = Err (Frame f)
@@ -42,6 +43,7 @@ abbrev pub listed_uid : List ℕ → Result (Option Entry) LineFault
 listed_uid bytes =
     if length bytes == 8 then claimed (from_be_bytes w64 bytes) else Err ListedLength
 
+-- what decoded bytes say, by a function of these, or that they aren't hex digits
 abbrev pub with_bytes : (List ℕ → Result (Option Entry) LineFault)
     → Result (List ℕ) FromHexError → Result (Option Entry) LineFault
 with_bytes f (Ok bytes) = f bytes

@@ -12,6 +12,7 @@ round_of (Some (Sent q)) k = Some (record { request = q; next = k })
 round_of (Some e) k = None
 round_of None k = None
 
+-- the round that is open at position i, by the position of its opener
 abbrev pub round_since : List Entry → ℕ → Option ℕ → Option OpenRound
 round_since es i None = None
 round_since es i (Some j) = round_of (slice_get es j) (i - suc j)

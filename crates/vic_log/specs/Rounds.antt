@@ -44,6 +44,7 @@ slots_opened (Some (Sent q)) = slot_count q
 slots_opened (Some e) = 0
 slots_opened None = 0
 
+-- how many slots are left at position i of those that the entry at the opener opens
 abbrev pub left_since : List Entry → ℕ → Option ℕ → ℕ
 left_since es i (Some j) = slots_opened (slice_get es j) - (i - suc j)
 left_since es i None = 0
@@ -59,6 +60,7 @@ mask_of_slot (Some (Sent q)) k = slot_mask q k
 mask_of_slot (Some e) k = None
 mask_of_slot None k = None
 
+-- the mask of the slot at position i of those that the entry at the opener opens
 abbrev pub mask_since : List Entry → ℕ → Option ℕ → Option BitMask
 mask_since es i (Some j) = mask_of_slot (slice_get es j) (i - suc j)
 mask_since es i None = None

@@ -48,6 +48,7 @@ abbrev pub with_reading : (ℕ → Bool) → Option Reading → List Slot → Li
 with_reading answers None slots = slots
 with_reading answers (Some r) slots = record { answers = answers; reading = r } ∷ slots
 
+-- with the slot of an entry, if it is a slot line of which something is known
 abbrev pub with_entry : (ℕ → Bool) → Option Entry → List Slot → List Slot
 with_entry answers None slots = slots
 with_entry answers (Some e) slots = with_reading answers (reading_of e) slots
@@ -69,6 +70,7 @@ may_be ManyReplies answers u = true
 may_be SomeReply answers u = true
 may_be (ReplyAmong h) answers u = true
 
+-- by this slot alone, the UID may be in the field
 abbrev pub allows : ℕ → Slot → Bool
 allows u s = may_be s.reading (s.answers u) u
 

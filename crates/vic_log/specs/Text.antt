@@ -56,6 +56,7 @@ line_fault version es number (Some line) =
     else if number == 1 then (if is_header line then None else Some Header)
     else reading_fault es (line_reading version line)
 
+-- the log line of what a line says, if that is an entry
 abbrev pub entry_line : ℕ → Result (Option Entry) LineFault → List LogLine
 entry_line number (Ok (Some e)) = record { number = number; item = e } ∷ []
 entry_line number (Ok None) = []

@@ -22,7 +22,7 @@ pub(crate) const LINE_ROOM: usize = 130;
 
 const _: () = prove!(LINE_ROOM == MAX_LINE_LEN + 2);
 
-/// What has been read so far.
+/// What has been read so far of a text whose pieces may end anywhere in a line.
 #[derive(Drop)]
 pub(crate) struct Begun {
     /// The lines judged.
@@ -93,7 +93,8 @@ fn end_line(read: &mut ReadLines, line: &[u8]) -> Result<(), LogFault>
     take_line(read, without_cr(line))
 }
 
-/// Takes bytes of the line begun, followed by its LF.
+/// Takes the last bytes of the line begun, up to its LF, and the LF: the line is complete, and is
+/// judged.
 fn take_end(begun: &mut Begun, bytes: &[u8]) -> Result<(), LogFault>
     requires { has bytes.now lf ≡ false }
     ensures ok { OnOk result ((text : List ℕ) → HasTaken text begun.old
@@ -122,7 +123,8 @@ fn take_end(begun: &mut Begun, bytes: &[u8]) -> Result<(), LogFault>
     Ok(())
 }
 
-/// Takes bytes of the line begun, whose LF hasn't been read yet.
+/// Takes more bytes of the line begun, whose LF hasn't been read yet: it is judged only if it is
+/// too long, or one too many.
 fn take_begun(begun: &mut Begun, bytes: &[u8]) -> Result<(), LogFault>
     requires { has bytes.now lf ≡ false }
     ensures ok { OnOk result ((text : List ℕ) → HasTaken text begun.old

@@ -41,7 +41,7 @@ fn version_named(line: &[u8]) -> Option<Version>
     }
 }
 
-/// Why a line isn't read whose entry can't be added to the log.
+/// The fault of the line with this number, whose entry the log didn't take.
 fn refused(number: u32, fault: PushFault) -> LogFault
     ensures { (es : List EntryValue) (e : EntryValue) → RefusesOr (refusal es e) fault
         → RefusesLine (order_fault es e) (record { number = number; item = e } ∷ []) number result }

@@ -1,8 +1,20 @@
 -- A complete binary tree of numbers, in which spans of leaves are raised by one.
-use Rattle.vic_margin.proofs.Words.{◌≡◌, ℕ, zero, suc, ◌+◌, ◌*◌, ◌/◌, ◌%◌, ◌^◌, ◌<◌, ◌≤◌, ◌==◌, Bool, true, false, List, length, slice_index, slice_set, get_or-set_other, get_or-set_same, get_or_default, inl, inr, refl, ap, ◌∙◌, arith, nat_tests, cases_lt, get_or, get_or-replicate, get_or_past, length-replicate, replicate, ⊎_elim}
+use Rattle.vic_margin.proofs.Words.{◌≡◌, ℕ, zero, suc, ◌+◌, ◌*◌, ◌/◌, ◌%◌, ◌^◌, ◌<◌, ◌≤◌, ◌==◌, ◌&&◌, ◌||◌, Bool, true, false, List, length, slice_index, slice_set, get_or-set_other, get_or-set_same, get_or_default, inl, inr, refl, ap, ◌∙◌, arith, nat_tests, cases_lt, get_or, get_or-replicate, get_or_past, length-replicate, replicate, ⊎_elim}
 use Rattle.vic_margin.specs.UidMargins.{one_if}
-use Rattle.vic_margin.specs.inner.Trees.{Adds, count_in, ends, sum_up, within}
+use Rattle.vic_margin.specs.inner.Trees.{count_in, sum_up, within}
 use Prim.Native.Nat.{min}
+
+-- of the nodes of a row from `low` on and before `high`, node n is raised itself: it is at an end,
+-- and its parent has a node outside
+abbrev pub is_raised : ℕ → ℕ → ℕ → Bool
+is_raised low high n = (n == low && low % 2 == 1) || (n + 1 == high && high % 2 == 1)
+
+-- d levels down, one is added to the sums of the nodes from `low` on and before `high`; nothing
+-- changes below that level
+pub record Adds (d low high : ℕ) (old new : List ℕ) : Type 0 where
+  pub below : (n : ℕ) → 2 ^ d ≤ n → slice_index new n ≡ slice_index old n
+  pub sums : (n : ℕ) → n < 2 ^ d → 2 ^ d ≤ n * 2
+      → sum_up new d n ≡ sum_up old d n + one_if (within low high n)
 
 -- ---- sums
 
@@ -34,14 +46,14 @@ below_pow (suc n) = let h = below_pow n in omega arith
 pub one_more : (xs : List ℕ) (k v n : ℕ) → k < length xs → v ≡ get_or xs k v → slice_index (slice_set xs k (v + 1)) n ≡ slice_index xs n + one_if (n == k)
 one_more xs k v n lt is = grind (arith, nat_tests, get_or-set_same xs k (v + 1) 0 lt, get_or-set_other xs k n (v + 1) 0, get_or_default xs k v 0 lt)
 
--- of a row of nodes, all but the ends are those below the parents
-halves : (low high n : ℕ) → low < high → one_if (ends low high n) + one_if (within (low / 2 + low % 2) (high / 2) (n / 2)) ≡ one_if (within low high n)
+-- of a row of nodes, all but those that are raised are those below the parents
+halves : (low high n : ℕ) → low < high → one_if (is_raised low high n) + one_if (within (low / 2 + low % 2) (high / 2) (n / 2)) ≡ one_if (within low high n)
 halves low high n lt = grind (arith, nat_tests)
 
-outside : (low high n : ℕ) → low < high → high ≤ n → one_if (ends low high n) ≡ 0
+outside : (low high n : ℕ) → low < high → high ≤ n → one_if (is_raised low high n) ≡ 0
 outside low high n lt le = grind (arith, nat_tests)
 
-before : (low high n : ℕ) → low < high → n < low → one_if (ends low high n) ≡ 0
+before : (low high n : ℕ) → low < high → n < low → one_if (is_raised low high n) ≡ 0
 before low high n lt le = grind (arith, nat_tests)
 
 at_most_one : (b : Bool) → one_if b ≤ 1
@@ -59,7 +71,7 @@ adds_none d low high xs le = record {
 
 -- the sum of a node d + 1 levels down, of which the row has an end or not
 sum_step : (d low high n : ℕ) (old mid new : List ℕ) → low < high → high ≤ 2 * 2 ^ d → 2 * 2 ^ d ≤ low * 2
-    → ((m : ℕ) → slice_index mid m ≡ slice_index old m + one_if (ends low high m))
+    → ((m : ℕ) → slice_index mid m ≡ slice_index old m + one_if (is_raised low high m))
     → Adds d (low / 2 + low % 2) (high / 2) mid new → n < 2 * 2 ^ d → 2 ^ d ≤ n
     → slice_index new n + sum_up new d (n / 2) ≡ (slice_index old n + sum_up old d (n / 2)) + one_if (within low high n)
 sum_step zero low high n old mid new lt room level raised h n_lt n_ge =
@@ -77,7 +89,7 @@ sum_step (suc d) low high n old mid new lt room level raised h n_lt n_ge =
     omega arith
 
 pub adds_step : (d low high : ℕ) (old mid new : List ℕ) → low < high → high ≤ 2 ^ suc d → 2 ^ suc d ≤ low * 2
-    → ((m : ℕ) → slice_index mid m ≡ slice_index old m + one_if (ends low high m))
+    → ((m : ℕ) → slice_index mid m ≡ slice_index old m + one_if (is_raised low high m))
     → Adds d (low / 2 + low % 2) (high / 2) mid new → Adds (suc d) low high old new
 adds_step d low high old mid new lt room level raised h = record {
   below = λ n ge. let here = h.below n (omega (arith, ge)) in let it = raised n in let no = outside low high n lt (omega (arith, ge, room)) in omega arith;
@@ -101,14 +113,14 @@ pub record IsOnWay (d from to low high : ℕ) (old now : List ℕ) : Type 0 wher
 pub way_start : (d from to : ℕ) (xs : List ℕ) → to ≤ 2 ^ d → 2 ^ d ≤ from * 2 → to ≤ length xs → IsOnWay d from to from to xs xs
 way_start d from to xs row level room = record { e = d; row = row; level = level; rest = λ new h. h; room = refl; high_room = room; same = λ n lt. refl; most = λ n. omega arith }
 
-raised_most : (d from to low high n : ℕ) (old now new : List ℕ) → low < high → slice_index new n ≡ slice_index now n + one_if (ends low high n) → IsOnWay d from to low high old now → slice_index new n ≤ slice_index old n + 1
+raised_most : (d from to low high n : ℕ) (old now new : List ℕ) → low < high → slice_index new n ≡ slice_index now n + one_if (is_raised low high n) → IsOnWay d from to low high old now → slice_index new n ≤ slice_index old n + 1
 raised_most d from to low high n old now new lt e h = elim (cases_lt n high) [
-  | inl below ↦ let s = h.same n below in let one = at_most_one (ends low high n) in omega arith
+  | inl below ↦ let s = h.same n below in let one = at_most_one (is_raised low high n) in omega arith
   | inr above ↦ let no = outside low high n lt above in let m = h.most n in omega arith
 ]
 
 way_next : (e d from to low high : ℕ) (old now new : List ℕ) → low < high → high ≤ 2 ^ e → 2 ^ e ≤ low * 2 → length new ≡ length now
-    → ((n : ℕ) → slice_index new n ≡ slice_index now n + one_if (ends low high n))
+    → ((n : ℕ) → slice_index new n ≡ slice_index now n + one_if (is_raised low high n))
     → ((end : List ℕ) → Adds e low high now end → Adds d from to old end) → IsOnWay d from to low high old now → IsOnWay d from to (low / 2 + low % 2) (high / 2) old new
 way_next zero d from to low high old now new lt row level room raised rest h = absurd (omega (arith, lt, row, level))
 way_next (suc e) d from to low high old now new lt row level room raised rest h = record {
@@ -123,7 +135,7 @@ way_next (suc e) d from to low high old now new lt row level room raised rest h 
 }
 
 pub way_step : (d from to low high : ℕ) (old now new : List ℕ) → low < high → length new ≡ length now
-    → ((n : ℕ) → slice_index new n ≡ slice_index now n + one_if (ends low high n))
+    → ((n : ℕ) → slice_index new n ≡ slice_index now n + one_if (is_raised low high n))
     → IsOnWay d from to low high old now → IsOnWay d from to (low / 2 + low % 2) (high / 2) old new
 way_step d from to low high old now new lt room raised h = way_next h.e d from to low high old now new lt h.row h.level room raised h.rest h
 

@@ -14,7 +14,7 @@ use vic_walk::{Parts, Span};
 pub(crate) struct Counts {
     /// The root is node 1. Below node `n` are nodes `2 * n` and `2 * n + 1`.
     nodes: Vec<u32>,
-    /// The leaf of the first count.
+    /// The node that is the leaf of the first count; so many leaves there are.
     leaves: usize,
     /// How many nodes lead from a leaf up to the root, both included.
     levels: usize,
@@ -63,7 +63,7 @@ impl Counts {
         let mut high = self.leaves + span.to;
         let nodes = &mut self.nodes;
         while low < high {
-            // of each row the nodes at both ends, if their parents have other nodes below
+            // in each row the nodes at both ends, if their parents have a node outside of the span
             if low % 2 == 1 {
                 nodes[low] += 1;
             }
@@ -76,7 +76,7 @@ impl Counts {
         self.raised += 1;
     }
 
-    /// A count.
+    /// The count with number `place`.
     pub(crate) fn at(&self, place: usize) -> u32
         requires { place < self.now.leaves }
         ensures value { result ≡ count_at self.now place }

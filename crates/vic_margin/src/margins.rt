@@ -20,6 +20,7 @@ use vic_walk::{LogLines, LogParts, Parts};
 pub(crate) struct PartMargins<'a> {
     pub log: &'a Log,
     pub parts: Parts,
+    /// The margins, by the numbers of the parts.
     pub each: Vec<u32>,
     ghost borders: { AreBorders parts } by { Prim.hlevel props },
     ghost margins: { AreMargins parts (entries log.now.lines) each.items } by { Prim.hlevel props },

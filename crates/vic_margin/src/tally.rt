@@ -45,7 +45,8 @@ impl Tally {
         })
     }
 
-    /// Takes what is left of the count of a part.
+    /// Turns the rest of a part into what is left of its count: as the UIDs of the part become
+    /// Quiet, or Ready again.
     fn turn(&mut self, part: usize)
         requires { part < length self.old.rest.items }
         ensures rest { self.new.rest.items ≡ slice_set self.old.rest.items part

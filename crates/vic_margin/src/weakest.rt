@@ -60,7 +60,7 @@ pub fn margin(alloc: Global, log: Log) -> Result<Margin, AllocError>
     }
 }
 
-/// What `margin` returns for a possible log with this verdict, by its parts.
+/// What `margin` returns for a possible log with this verdict: its margin, measured by its parts.
 fn measured(
     alloc: Global,
     verdict: Verdict,

@@ -18,7 +18,7 @@ use Rattle.vic_table.specs.declared.columns.CatalogueColumns.{CatalogueColumns}
 use Rattle.vic_table.specs.declared.columns.PlacesColumns.{PlacesColumns}
 use Rattle.vic_table.specs.declared.fault.TableLineFault.{TableLineFault}
 use Rattle.vic_table.specs.declared.fault.TableLineFault.TheVariants as fault
-use Rattle.vic_table.specs.inner.Faults.{shape_fault, rest_fault}
+use Rattle.vic_table.specs.inner.Faults.{shape_fault, place_or_away_fault}
 
 abbrev one_if : Bool → ℕ
 one_if b = if b then 1 else 0
@@ -94,13 +94,13 @@ none_before None = refl
 none_before (Some u) = refl
 
 module _ (c : CatalogueColumns) where
-  item_parts : (before : List ℕ) (cells : List (List ℕ)) → item_fault c before cells ≡ None → (shape_fault c cells ≡ None) × (is_given before (spelled_uid (cell_at cells c.uid)) ≡ false) × (rest_fault c cells ≡ None)
+  item_parts : (before : List ℕ) (cells : List (List ℕ)) → item_fault c before cells ≡ None → (shape_fault c cells ≡ None) × (is_given before (spelled_uid (cell_at cells c.uid)) ≡ false) × (place_or_away_fault c cells ≡ None)
   item_parts before cells h =
       let p = none_of_two (shape_fault c cells) (behind_shape c before cells) (sym (item_fault-parts c before cells) ∙ h) in
-      let q = if_none (is_given before (spelled_uid (cell_at cells c.uid))) fault.DuplicateUid (rest_fault c cells) p.1 in
+      let q = if_none (is_given before (spelled_uid (cell_at cells c.uid))) fault.DuplicateUid (place_or_away_fault c cells) p.1 in
       (p.0, q.0, q.1)
 
-  item_whole : (before : List ℕ) (cells : List (List ℕ)) → shape_fault c cells ≡ None → is_given before (spelled_uid (cell_at cells c.uid)) ≡ false → rest_fault c cells ≡ None → item_fault c before cells ≡ None
+  item_whole : (before : List ℕ) (cells : List (List ℕ)) → shape_fault c cells ≡ None → is_given before (spelled_uid (cell_at cells c.uid)) ≡ false → place_or_away_fault c cells ≡ None → item_fault c before cells ≡ None
   item_whole before cells shape given rest = item_fault-rest c before cells shape given ∙ rest
 
   pub items_clash : Clashes unnumbered (line_item c) has_uid_of (λ items line. item_line_fault c (item_uids items) line)

@@ -18,7 +18,7 @@ use Rattle.vic_table.specs.declared.columns.Columns.TheVariants.{Catalogue, Plac
 use Rattle.vic_table.specs.declared.columns.Separator.{Separator}
 use Rattle.vic_table.specs.declared.columns.Separator.TheVariants.{Comma, Semicolon, Tab}
 use Rattle.vic_table.specs.declared.fault.TableLineFault.TheVariants as fault
-use Rattle.vic_table.specs.inner.Faults.{shape_fault, rest_fault}
+use Rattle.vic_table.specs.inner.Faults.{shape_fault, place_or_away_fault}
 use Rattle.vic_table.proofs.Faultless.{none_of_two, if_none}
 use Rattle.vic_table.proofs.Elements.{list_any_holds, list_all_fails, slice_get-take, slice_get-drop_at}
 use Rattle.vic_table.proofs.Rows.{item_fault-parts, behind_shape}
@@ -252,7 +252,7 @@ module _ (c : CatalogueColumns) (lines : List (List ℕ)) (clean : HasNoFault li
   row_once j line cells at split full d (Some u) e =
       let before = item_uids (items_upto c lines (suc j)) in
       let behind = (none_of_two (shape_fault c cells) (behind_shape c before cells) (sym (item_fault-parts c before cells) ∙ row_clean j line cells at split full)).1 in
-      let not_given = (if_none (is_given before (spelled_uid (cell_at cells c.uid))) fault.DuplicateUid (rest_fault c cells) behind).0 in
+      let not_given = (if_none (is_given before (spelled_uid (cell_at cells c.uid))) fault.DuplicateUid (place_or_away_fault c cells) behind).0 in
       one_more_uid (items_upto c lines (suc j)) (item_of c (suc (suc j)) line cells ∷ []) u (one_item (item_of c (suc (suc j)) line cells) u (sym e)) (ap (is_given before) e ∙ not_given) d
 
   line_once : (j : ℕ) (line : List ℕ) → slice_get lines (suc j) ≡ Some line → AreDifferent (item_uids (items_upto c lines (suc j)))

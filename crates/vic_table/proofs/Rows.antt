@@ -14,7 +14,7 @@ use Rattle.vic_table.specs.declared.fault.TableLineFault.TheVariants as fault
 use Rattle.vic_table.specs.declared.fault.TableFault.{TableFault}
 use Rattle.vic_table.specs.declared.fault.TableFault.TheVariants.{Line, Memory}
 use Rattle.vic_table.specs.declared.item_list.Item.{Item}
-use Rattle.vic_table.specs.inner.Faults.{RefusesAt, shape_fault, rest_fault}
+use Rattle.vic_table.specs.inner.Faults.{RefusesAt, shape_fault, place_or_away_fault}
 use Rattle.vic_table.specs.inner.Kept.{item_value}
 use Rattle.vic_table.specs.inner.Sets.{IsSetOf, IsItemOf, TellsNew}
 
@@ -26,7 +26,7 @@ in_parts false false false x y z o = refl
 
 -- the faults behind the shape
 abbrev pub behind_shape : CatalogueColumns → List ℕ → List (List ℕ) → Option TableLineFault
-behind_shape c before cells = if is_given before (spelled_uid (cell_at cells c.uid)) then Some fault.DuplicateUid else rest_fault c cells
+behind_shape c before cells = if is_given before (spelled_uid (cell_at cells c.uid)) then Some fault.DuplicateUid else place_or_away_fault c cells
 
 pub item_fault-parts : (c : CatalogueColumns) (before : List ℕ) (cells : List (List ℕ)) → item_fault c before cells ≡ option_or (shape_fault c cells) (behind_shape c before cells)
 item_fault-parts c before cells = in_parts (not (length cells == c.count)) (is_wrong_uid (cell_at cells c.uid)) (tells_elsewhere c cells) fault.Cells fault.Uid fault.UidElsewhere (behind_shape c before cells)
@@ -35,10 +35,10 @@ pub item_fault-shape : (c : CatalogueColumns) (before : List ℕ) (cells : List 
 item_fault-shape c before cells f e = item_fault-parts c before cells ∙ ap (λ o. option_or o (behind_shape c before cells)) e
 
 pub item_fault-given : (c : CatalogueColumns) (before : List ℕ) (cells : List (List ℕ)) → shape_fault c cells ≡ None → is_given before (spelled_uid (cell_at cells c.uid)) ≡ true → item_fault c before cells ≡ Some fault.DuplicateUid
-item_fault-given c before cells e g = item_fault-parts c before cells ∙ (ap (λ o. option_or o (behind_shape c before cells)) e ∙ cond-true _ (Some fault.DuplicateUid) (rest_fault c cells) g)
+item_fault-given c before cells e g = item_fault-parts c before cells ∙ (ap (λ o. option_or o (behind_shape c before cells)) e ∙ cond-true _ (Some fault.DuplicateUid) (place_or_away_fault c cells) g)
 
-pub item_fault-rest : (c : CatalogueColumns) (before : List ℕ) (cells : List (List ℕ)) → shape_fault c cells ≡ None → is_given before (spelled_uid (cell_at cells c.uid)) ≡ false → item_fault c before cells ≡ rest_fault c cells
-item_fault-rest c before cells e g = item_fault-parts c before cells ∙ (ap (λ o. option_or o (behind_shape c before cells)) e ∙ cond-false _ (Some fault.DuplicateUid) (rest_fault c cells) g)
+pub item_fault-rest : (c : CatalogueColumns) (before : List ℕ) (cells : List (List ℕ)) → shape_fault c cells ≡ None → is_given before (spelled_uid (cell_at cells c.uid)) ≡ false → item_fault c before cells ≡ place_or_away_fault c cells
+item_fault-rest c before cells e g = item_fault-parts c before cells ∙ (ap (λ o. option_or o (behind_shape c before cells)) e ∙ cond-false _ (Some fault.DuplicateUid) (place_or_away_fault c cells) g)
 
 -- ---- a line that is a row
 
@@ -81,7 +81,7 @@ not_given false e = refl
 
 -- a row without a fault
 pub row_done : (c : CatalogueColumns) (before : List ℕ) (cells : List (List ℕ)) (number start end : ℕ) (item : Item) (set : BTreeSet ℕ)
-    → shape_fault c cells ≡ None → rest_fault c cells ≡ None → TellsNew before item.uid true set
+    → shape_fault c cells ≡ None → place_or_away_fault c cells ≡ None → TellsNew before item.uid true set
     → item.uid ≡ spelled_uid (cell_at cells c.uid) → option_map (λ p. p.items) item.place ≡ place_at cells c.place → item.away ≡ is_word_at (codes "away") cells c.away
     → item.line ≡ number → item.start ≡ start → item.end ≡ end
     → (item_fault c before cells ≡ None) × ((text : List ℕ) → item_value text item ≡ item_of c number (slice_range text start end) cells) × IsSetOf (before ++ as_list (spelled_uid (cell_at cells c.uid))) set

@@ -105,20 +105,23 @@ separator_of (Places c) = c.separator
 abbrev pub tells_elsewhere : CatalogueColumns → List (List ℕ) → Bool
 tells_elsewhere c cells = list_any tells_uid (remove cells c.uid)
 
+-- a name of a column of a catalogue has or spells a UID
 abbrev pub is_told_by_name : Columns → List (List ℕ) → Bool
 is_told_by_name (Catalogue c) cells = tells_elsewhere c cells
 is_told_by_name (Places c) cells = false
 
--- the first fault of the names of columns that count
+-- the first fault of the names of a table's columns
 abbrev pub names_fault : Columns → List (List ℕ) → Option TableLineFault
 names_fault columns cells =
     if are_of_result cells then Some fault.Result
     else if is_told_by_name columns cells then Some fault.UidElsewhere
     else None
 
+-- the cells of a first line under the separator of its columns
 abbrev pub first_cells : List ℕ → Columns → Option (List (List ℕ))
 first_cells line columns = cells_of (separator_byte (separator_of columns)) line
 
+-- the first fault of a first line that has cells, by the columns that it names
 abbrev pub columns_fault : List ℕ → Option Columns → Option TableLineFault
 columns_fault line None = Some fault.Columns
 columns_fault line (Some columns) =

@@ -21,6 +21,7 @@ without_mark text = if has_mark text then drop 3 text else text
 abbrev pub table_lines : List ℕ → List (List ℕ)
 table_lines text = lines_of_text (without_mark text)
 
+-- the end of the first of some lines that still have theirs
 abbrev pub end_of_first : List (List ℕ) → List ℕ
 end_of_first [] = []
 end_of_first (part ∷ parts) = drop (length (content part)) part

@@ -12,6 +12,7 @@ use Rattle.vic_table.specs.declared.columns.PlacesColumns.{PlacesColumns}
 use Rattle.vic_table.specs.declared.fault.TableLineFault.{TableLineFault}
 use Rattle.vic_table.specs.declared.fault.TableLineFault.TheVariants as fault
 
+-- a cell of a line, empty if the line has fewer
 abbrev pub cell_at : List (List ℕ) → ℕ → List ℕ
 cell_at cells i = get_or cells i []
 
@@ -30,7 +31,7 @@ abbrev pub is_given : List ℕ → Option ℕ → Bool
 is_given before None = false
 is_given before (Some u) = has before u
 
--- the cell of a column that the table may lack
+-- of the cell of a column that the table may lack: whether it is blank, whether it is a word
 abbrev pub is_blank_at : List (List ℕ) → Option ℕ → Bool
 is_blank_at cells None = false
 is_blank_at cells (Some i) = is_blank (cell_at cells i)
@@ -60,6 +61,7 @@ item_fault c before cells =
 abbrev pub place_named : List ℕ → Option (List ℕ)
 place_named cell = if is_word (codes "any") cell then None else Some (trimmed cell)
 
+-- the place that a row names in a column that the table may lack
 abbrev pub place_at : List (List ℕ) → Option ℕ → Option (List ℕ)
 place_at cells None = None
 place_at cells (Some i) = place_named (cell_at cells i)
@@ -74,6 +76,7 @@ item_of c number line cells = record {
   away = is_word_at (codes "away") cells c.away;
 }
 
+-- the same of the cells of any line: `None` where a quote is wrong; a blank line is no row
 abbrev pub cells_item_fault : CatalogueColumns → List ℕ → Option (List (List ℕ))
     → Option TableLineFault
 cells_item_fault c before None = Some fault.Quote
@@ -85,6 +88,7 @@ abbrev pub item_line_fault : CatalogueColumns → List ℕ → List ℕ → Opti
 item_line_fault c before line =
     cells_item_fault c before (cells_of (separator_byte c.separator) line)
 
+-- the item of the cells of any line, if they are a row
 abbrev pub cells_item : CatalogueColumns → ℕ → List ℕ → Option (List (List ℕ)) → List ItemValue
 cells_item c number line None = []
 cells_item c number line (Some cells) =
@@ -113,6 +117,7 @@ place_fault c before cells =
     else if is_named before (trimmed (cell_at cells c.log)) then Some fault.DuplicateLog
     else None
 
+-- the row of a table of places with these cells
 abbrev pub place_row_of : PlacesColumns → ℕ → List (List ℕ) → PlaceRowValue
 place_row_of c number cells = record {
   line = number;
@@ -120,6 +125,7 @@ place_row_of c number cells = record {
   log = trimmed (cell_at cells c.log);
 }
 
+-- the same of the cells of any line: `None` where a quote is wrong; a blank line is no row
 abbrev pub cells_place_fault : PlacesColumns → List PlaceRowValue → Option (List (List ℕ))
     → Option TableLineFault
 cells_place_fault c before None = Some fault.Quote
@@ -131,6 +137,7 @@ abbrev pub place_line_fault : PlacesColumns → List PlaceRowValue → List ℕ 
 place_line_fault c before line =
     cells_place_fault c before (cells_of (separator_byte c.separator) line)
 
+-- the row of the cells of any line, if they are one
 abbrev pub cells_place_row : PlacesColumns → ℕ → Option (List (List ℕ)) → List PlaceRowValue
 cells_place_row c number None = []
 cells_place_row c number (Some cells) =

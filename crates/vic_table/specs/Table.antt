@@ -16,8 +16,11 @@ use Rattle.vic_table.specs.declared.fault.TableFault.TheVariants.{Line, Memory}
 use Rattle.vic_table.specs.declared.read.Table.{Table}
 use Rattle.vic_table.specs.declared.read.Table.TheVariants.{Catalogue as CatalogueTable, Places as PlacesTable}
 
--- lines are counted from 0 here, by how many are before; their numbers, from 1
+-- lines are counted from 0 here, by how many are before; their numbers, from 1. So the line behind
+-- `suc k` others has the number `suc (suc k)`, and the line behind none is the first, which names
+-- columns
 
+-- the item of the line behind n others, if it is a row
 abbrev pub item_on : CatalogueColumns → ℕ → Option (List ℕ) → List ItemValue
 item_on c zero line = []
 item_on c (suc k) None = []
@@ -28,6 +31,7 @@ abbrev pub items_upto : CatalogueColumns → List (List ℕ) → ℕ → List It
 items_upto c lines zero = []
 items_upto c lines (suc k) = items_upto c lines k ++ item_on c k (slice_get lines k)
 
+-- the row of the line behind n others, in a table of places
 abbrev pub place_row_on : PlacesColumns → ℕ → Option (List ℕ) → List PlaceRowValue
 place_row_on c zero line = []
 place_row_on c (suc k) None = []
@@ -50,15 +54,17 @@ fault_by_columns lines n line (Some (Catalogue c)) =
 fault_by_columns lines n line (Some (Places c)) =
     place_line_fault c (place_rows_upto c lines n) line
 
+-- what is wrong with the cells of the line behind the first n
 abbrev pub line_fault : List (List ℕ) → ℕ → List ℕ → Option TableLineFault
 line_fault lines zero line = first_line_fault line
 line_fault lines (suc k) line = fault_by_columns lines (suc k) line (columns_named lines)
 
+-- what is wrong with these items of a complete catalogue
 abbrev pub items_fault : List ItemValue → Option TableLineFault
 items_fault [] = Some fault.NoItems
 items_fault (item ∷ items) = None
 
--- a catalogue without items has a fault
+-- what is wrong with the rows of a complete table: a catalogue needs an item
 abbrev pub rows_fault : List (List ℕ) → Option Columns → Option TableLineFault
 rows_fault lines None = None
 rows_fault lines (Some (Catalogue c)) = items_fault (items_upto c lines (length lines))
@@ -70,6 +76,7 @@ end_fault lines zero = Some fault.Columns
 end_fault lines (suc k) =
     if suc k == length lines then rows_fault lines (columns_named lines) else None
 
+-- what is wrong with the line behind the first n, or with the end if there is none
 abbrev pub fault_of : List (List ℕ) → ℕ → Option (List ℕ) → Option TableLineFault
 fault_of lines n None = end_fault lines n
 fault_of lines n (Some line) = option_or (bytes_fault n line) (line_fault lines n line)
@@ -89,6 +96,7 @@ pub record IsFirstFault (lines : List (List ℕ)) (number : ℕ) (f : TableLineF
   pub here : fault_behind lines before ≡ Some f
   pub first : (m : ℕ) → m < before → fault_behind lines m ≡ None
 
+-- the catalogue of a text
 pub record IsCatalogueOf (text : List ℕ) (catalogue : CatalogueValue) : Type 0 where
   pub no_fault : HasNoFault (table_lines text)
   pub columns : columns_named (table_lines text) ≡ Some (Catalogue catalogue.columns)

@@ -8,59 +8,6 @@ ghost use Rattle.vic_table.specs.inner.Spans.{IsWithin, span_cells, after_step};
 use std::alloc::{AllocError, Global};
 use std::marker::Model;
 
-const QUOTE: u8 = b'"';
-
-/// Where in a line the next byte is.
-#[derive(Clone, Copy, Debug, PartialEq, Eq)]
-pub(crate) enum Spot {
-    /// Where a cell begins.
-    Begin,
-    /// In a cell without quotes.
-    Plain,
-    /// Between the quotes of a cell.
-    Quoted,
-    /// Behind a quote that closes the cell, or is the first of two.
-    Closed,
-}
-
-/// What a byte does to the cell that it is in.
-#[derive(Clone, Copy, Debug)]
-enum Step {
-    /// It isn't part of the cell.
-    Skips(Spot),
-    /// It is part of the cell.
-    Keeps(Spot),
-    /// It ends the cell.
-    Ends,
-    /// It can't stand there.
-    Wrong,
-}
-
-/// Where the bytes of a cell are.
-#[derive(Clone, Copy, Debug)]
-pub(crate) struct Span {
-    pub(crate) start: usize,
-    pub(crate) end: usize,
-}
-
-/// What a byte of a line does.
-#[inline(always)]
-fn step_of(separator: u8, spot: Spot, byte: u8) -> Step
-    ensures { (line : List ℕ) → cells_from separator spot (byte ∷ line)
-        ≡ after_step separator byte result line }
-{
-    match spot {
-        Spot::Quoted if byte == QUOTE => Step::Skips(Spot::Closed),
-        Spot::Quoted => Step::Keeps(Spot::Quoted),
-        Spot::Begin if byte == QUOTE => Step::Skips(Spot::Quoted),
-        Spot::Closed if byte == QUOTE => Step::Keeps(Spot::Quoted),
-        Spot::Plain if byte == QUOTE => Step::Wrong,
-        _ if byte == separator => Step::Ends,
-        Spot::Begin | Spot::Plain => Step::Keeps(Spot::Plain),
-        Spot::Closed => Step::Wrong,
-    }
-}
-
 /// The cells of one line after another, without their quotes. Its value is the cells of the line
 /// split last.
 #[derive(Drop)]
@@ -117,6 +64,13 @@ impl LineCells {
     }
 }
 
+/// Where the bytes of a cell are.
+#[derive(Clone, Copy, Debug)]
+pub(crate) struct Span {
+    pub(crate) start: usize,
+    pub(crate) end: usize,
+}
+
 /// Puts the cells of a line into bytes and spans that have none.
 fn fill(
     bytes: &mut Vec<u8>,
@@ -156,3 +110,49 @@ fn fill(
     spans.push(Span { start, end })?;
     Ok(true)
 }
+
+/// Where in a line the next byte is.
+#[derive(Clone, Copy, Debug, PartialEq, Eq)]
+pub(crate) enum Spot {
+    /// Where a cell begins.
+    Begin,
+    /// In a cell without quotes.
+    Plain,
+    /// Between the quotes of a cell.
+    Quoted,
+    /// Behind a quote that closes the cell, or is the first of two.
+    Closed,
+}
+
+/// What a byte does to the cell that it is in.
+#[derive(Clone, Copy, Debug)]
+enum Step {
+    /// It isn't part of the cell.
+    Skips(Spot),
+    /// It is part of the cell.
+    Keeps(Spot),
+    /// It ends the cell.
+    Ends,
+    /// It can't stand there.
+    Wrong,
+}
+
+/// What a byte of a line does.
+#[inline(always)]
+fn step_of(separator: u8, spot: Spot, byte: u8) -> Step
+    ensures { (line : List ℕ) → cells_from separator spot (byte ∷ line)
+        ≡ after_step separator byte result line }
+{
+    match spot {
+        Spot::Quoted if byte == QUOTE => Step::Skips(Spot::Closed),
+        Spot::Quoted => Step::Keeps(Spot::Quoted),
+        Spot::Begin if byte == QUOTE => Step::Skips(Spot::Quoted),
+        Spot::Closed if byte == QUOTE => Step::Keeps(Spot::Quoted),
+        Spot::Plain if byte == QUOTE => Step::Wrong,
+        _ if byte == separator => Step::Ends,
+        Spot::Begin | Spot::Plain => Step::Keeps(Spot::Plain),
+        Spot::Closed => Step::Wrong,
+    }
+}
+
+const QUOTE: u8 = b'"';

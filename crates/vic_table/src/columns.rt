@@ -14,15 +14,25 @@ use crate::fault::{TableFault, TableLineFault};
 use crate::uids::tells_uid;
 use std::alloc::AllocError;
 
-/// What the names of the columns of a result begin with, in any case.
-const RESULT: [u8; 9] = *b"vicinity ";
-
 /// What stands between two cells.
 #[derive(Clone, Copy, Debug, PartialEq, Eq)]
 pub enum Separator {
     Comma,
     Semicolon,
     Tab,
+}
+
+impl Separator {
+    /// Its byte.
+    pub fn byte(self) -> u8
+        ensures { result ≡ separator_byte self }
+    {
+        match self {
+            Separator::Comma => b',',
+            Separator::Semicolon => b';',
+            Separator::Tab => b'\t',
+        }
+    }
 }
 
 /// The columns of a catalogue, each by its index, counted from 0.
@@ -53,16 +63,42 @@ pub enum Columns {
     Places(PlacesColumns),
 }
 
-impl Separator {
-    /// Its byte.
-    pub fn byte(self) -> u8
-        ensures { result ≡ separator_byte self }
-    {
-        match self {
-            Separator::Comma => b',',
-            Separator::Semicolon => b';',
-            Separator::Tab => b'\t',
-        }
+/// The columns that the first line of a table names.
+pub(crate) fn first_columns(cells: &mut LineCells, line: &[u8]) -> Result<Columns, TableFault>
+    ensures { MatchResult result
+        (λ c. (columns_of line.now ≡ Some c) × (first_line_fault line.now ≡ None))
+        (RefusesAt 1 (first_line_fault line.now)) }
+{
+    let comma = head_under(cells, Separator::Comma, line)?;
+    if let Head::Named(columns) = comma {
+        return checked(columns, cells);
+    }
+    let semicolon = head_under(cells, Separator::Semicolon, line)?;
+    if let Head::Named(columns) = semicolon {
+        return checked(columns, cells);
+    }
+    let tab = head_under(cells, Separator::Tab, line)?;
+    if let Head::Named(columns) = tab {
+        return checked(columns, cells);
+    }
+    let misquoted = comma.is_misquoted() && semicolon.is_misquoted() && tab.is_misquoted();
+    let fault = if misquoted {
+        TableLineFault::Quote
+    } else {
+        TableLineFault::Columns
+    };
+    Err(TableFault::Line { line: 1, fault })
+}
+
+/// Columns that a first line names, unless one of its names has a fault.
+fn checked(columns: Columns, cells: &LineCells) -> Result<Columns, TableFault>
+    ensures { MatchResult result
+        (λ c. (c ≡ columns) × (names_fault columns cells.now ≡ None))
+        (RefusesAt 1 (names_fault columns cells.now)) }
+{
+    match names_fault(&columns, cells) {
+        None => Ok(columns),
+        Some(fault) => Err(TableFault::Line { line: 1, fault }),
     }
 }
 
@@ -83,6 +119,45 @@ impl Head {
     {
         matches!(self, Head::Misquoted)
     }
+}
+
+/// Splits a first line under a separator.
+fn head_under(cells: &mut LineCells, separator: Separator, line: &[u8]) -> Result<Head, AllocError>
+    ensures { IfOk result (IsHead line.now separator cells.new) }
+{
+    if !cells.split(separator.byte(), line)? {
+        return Ok(Head::Misquoted);
+    }
+    Ok(match named_columns(separator, cells) {
+        Some(columns) => Head::Named(columns),
+        None => Head::Unnamed,
+    })
+}
+
+/// The columns that the cells of a first line name, if a table has such.
+fn named_columns(separator: Separator, cells: &LineCells) -> Option<Columns>
+    ensures { result ≡ named_columns separator cells.now }
+{
+    let uids = count_of(cells, b"uid");
+    let places = count_of(cells, b"place");
+    if uids == 1 && places <= 1 && count_of(cells, b"away") <= 1 {
+        return Some(Columns::Catalogue(CatalogueColumns {
+            separator,
+            count: cells.len(),
+            uid: index_of(cells, b"uid").unwrap_or(0),
+            place: index_of(cells, b"place"),
+            away: index_of(cells, b"away"),
+        }));
+    }
+    if uids == 0 && places == 1 && count_of(cells, b"log") == 1 {
+        return Some(Columns::Places(PlacesColumns {
+            separator,
+            count: cells.len(),
+            place: index_of(cells, b"place").unwrap_or(0),
+            log: index_of(cells, b"log").unwrap_or(0),
+        }));
+    }
+    None
 }
 
 /// How many columns have a name, given in lower case.
@@ -112,92 +187,6 @@ fn index_of(cells: &LineCells, name: &[u8]) -> Option<usize>
     None
 }
 
-/// The columns that the cells of a first line name, if a table has such.
-fn named_columns(separator: Separator, cells: &LineCells) -> Option<Columns>
-    ensures { result ≡ named_columns separator cells.now }
-{
-    let uids = count_of(cells, b"uid");
-    let places = count_of(cells, b"place");
-    if uids == 1 && places <= 1 && count_of(cells, b"away") <= 1 {
-        return Some(Columns::Catalogue(CatalogueColumns {
-            separator,
-            count: cells.len(),
-            uid: index_of(cells, b"uid").unwrap_or(0),
-            place: index_of(cells, b"place"),
-            away: index_of(cells, b"away"),
-        }));
-    }
-    if uids == 0 && places == 1 && count_of(cells, b"log") == 1 {
-        return Some(Columns::Places(PlacesColumns {
-            separator,
-            count: cells.len(),
-            place: index_of(cells, b"place").unwrap_or(0),
-            log: index_of(cells, b"log").unwrap_or(0),
-        }));
-    }
-    None
-}
-
-/// Whether one of the cells from one index up to another has or spells a UID.
-fn any_tells_uid(cells: &LineCells, from: usize, to: usize) -> bool
-    requires order { from ≤ to }
-    requires bound { to ≤ length cells.now }
-    ensures { result ≡ list_any tells_uid (slice_range cells.now from to) }
-{
-    for index in from..to {
-        if tells_uid(cells.get(index)) {
-            return true;
-        }
-    }
-    false
-}
-
-/// Whether a cell of a catalogue's line besides that of the column `uid` has or spells a UID.
-pub(crate) fn tells_elsewhere(columns: &CatalogueColumns, cells: &LineCells) -> bool
-    ensures { result ≡ tells_elsewhere columns.now cells.now }
-{
-    let len = cells.len();
-    if columns.uid >= len {
-        return any_tells_uid(cells, 0, len);
-    }
-    any_tells_uid(cells, 0, columns.uid) || any_tells_uid(cells, columns.uid + 1, len)
-}
-
-/// Whether a cell names a column that the program writes behind those of a catalogue.
-fn is_of_this_version(cell: &[u8]) -> bool
-    ensures { result ≡ is_of_this_version cell.now }
-{
-    let name = trimmed(cell);
-    name.len() >= RESULT.len() && name[..RESULT.len()].eq_ignore_ascii_case(RESULT.as_slice())
-}
-
-/// Whether a cell names a column that version 1 of the program wrote behind those of a catalogue.
-/// Its column `state` doesn't count: catalogues have one too.
-fn is_of_version_1(cell: &[u8]) -> bool
-    ensures { result ≡ is_of_version_1 cell.now }
-{
-    is_word(cell, b"certain in") || is_word(cell, b"may be in")
-}
-
-/// Whether a cell names a column of a table that was written about a catalogue.
-fn is_of_result(cell: &[u8]) -> bool
-    ensures { result ≡ is_of_result cell.now }
-{
-    is_of_this_version(cell) || is_of_version_1(cell)
-}
-
-/// Whether one of the cells names such a column.
-fn any_is_of_result(cells: &LineCells) -> bool
-    ensures { result ≡ list_any is_of_result cells.now }
-{
-    for index in 0..cells.len() {
-        if is_of_result(cells.get(index)) {
-            return true;
-        }
-    }
-    false
-}
-
 /// The first fault of the cells of a first line that name columns.
 fn names_fault(columns: &Columns, cells: &LineCells) -> Option<TableLineFault>
     ensures { result ≡ names_fault columns.now cells.now }
@@ -213,54 +202,65 @@ fn names_fault(columns: &Columns, cells: &LineCells) -> Option<TableLineFault>
     }
 }
 
-/// Splits a first line under a separator.
-fn head_under(cells: &mut LineCells, separator: Separator, line: &[u8]) -> Result<Head, AllocError>
-    ensures { IfOk result (IsHead line.now separator cells.new) }
+/// Whether one of the cells names such a column.
+fn any_is_of_result(cells: &LineCells) -> bool
+    ensures { result ≡ list_any is_of_result cells.now }
 {
-    if !cells.split(separator.byte(), line)? {
-        return Ok(Head::Misquoted);
+    for index in 0..cells.len() {
+        if is_of_result(cells.get(index)) {
+            return true;
+        }
     }
-    Ok(match named_columns(separator, cells) {
-        Some(columns) => Head::Named(columns),
-        None => Head::Unnamed,
-    })
+    false
 }
 
-/// Columns that a first line names, unless one of its names has a fault.
-fn checked(columns: Columns, cells: &LineCells) -> Result<Columns, TableFault>
-    ensures { MatchResult result
-        (λ c. (c ≡ columns) × (names_fault columns cells.now ≡ None))
-        (RefusesAt 1 (names_fault columns cells.now)) }
+/// Whether a cell names a column of a table that was written about a catalogue.
+fn is_of_result(cell: &[u8]) -> bool
+    ensures { result ≡ is_of_result cell.now }
 {
-    match names_fault(&columns, cells) {
-        None => Ok(columns),
-        Some(fault) => Err(TableFault::Line { line: 1, fault }),
-    }
+    is_of_this_version(cell) || is_of_version_1(cell)
 }
 
-/// The columns that the first line of a table names.
-pub(crate) fn first_columns(cells: &mut LineCells, line: &[u8]) -> Result<Columns, TableFault>
-    ensures { MatchResult result
-        (λ c. (columns_of line.now ≡ Some c) × (first_line_fault line.now ≡ None))
-        (RefusesAt 1 (first_line_fault line.now)) }
+/// Whether a cell names a column that the program writes behind those of a catalogue.
+fn is_of_this_version(cell: &[u8]) -> bool
+    ensures { result ≡ is_of_this_version cell.now }
 {
-    let comma = head_under(cells, Separator::Comma, line)?;
-    if let Head::Named(columns) = comma {
-        return checked(columns, cells);
+    let name = trimmed(cell);
+    name.len() >= RESULT.len() && name[..RESULT.len()].eq_ignore_ascii_case(RESULT.as_slice())
+}
+
+/// What the names of the columns of a result begin with, in any case.
+const RESULT: [u8; 9] = *b"vicinity ";
+
+/// Whether a cell names a column that version 1 of the program wrote behind those of a catalogue.
+/// Its column `state` doesn't count: catalogues have one too.
+fn is_of_version_1(cell: &[u8]) -> bool
+    ensures { result ≡ is_of_version_1 cell.now }
+{
+    is_word(cell, b"certain in") || is_word(cell, b"may be in")
+}
+
+/// Whether a cell of a catalogue's line besides that of the column `uid` has or spells a UID.
+pub(crate) fn tells_elsewhere(columns: &CatalogueColumns, cells: &LineCells) -> bool
+    ensures { result ≡ tells_elsewhere columns.now cells.now }
+{
+    let len = cells.len();
+    if columns.uid >= len {
+        return any_tells_uid(cells, 0, len);
     }
-    let semicolon = head_under(cells, Separator::Semicolon, line)?;
-    if let Head::Named(columns) = semicolon {
-        return checked(columns, cells);
+    any_tells_uid(cells, 0, columns.uid) || any_tells_uid(cells, columns.uid + 1, len)
+}
+
+/// Whether one of the cells from one index up to another has or spells a UID.
+fn any_tells_uid(cells: &LineCells, from: usize, to: usize) -> bool
+    requires order { from ≤ to }
+    requires bound { to ≤ length cells.now }
+    ensures { result ≡ list_any tells_uid (slice_range cells.now from to) }
+{
+    for index in from..to {
+        if tells_uid(cells.get(index)) {
+            return true;
+        }
     }
-    let tab = head_under(cells, Separator::Tab, line)?;
-    if let Head::Named(columns) = tab {
-        return checked(columns, cells);
-    }
-    let misquoted = comma.is_misquoted() && semicolon.is_misquoted() && tab.is_misquoted();
-    let fault = if misquoted {
-        TableLineFault::Quote
-    } else {
-        TableLineFault::Columns
-    };
-    Err(TableFault::Line { line: 1, fault })
+    false
 }

@@ -83,53 +83,49 @@ impl PlaceRow {
     }
 }
 
-/// Whether a log is new, which is then put into the set of those before.
-fn is_new(alloc: Global, logs: &mut BTreeSet<Vec<u8>>, log: &[u8]) -> Result<bool, AllocError>
-    ensures { IfOk result (λ new. (before : List PlaceRowValue) → AreLogsOf before logs.old
-        → TellsNewLog before log.now new logs.new) }
-{
-    Ok(logs.insert(log.to_vec(alloc)?)?)
-}
-
-/// The row of a line's cells, after the rows whose logs are in the set.
-fn row_of(
+/// The rows of a table of places whose second line begins at an offset of a text.
+pub(crate) fn read_place_rows(
     alloc: Global,
     columns: &PlacesColumns,
-    cells: &LineCells,
-    logs: &mut BTreeSet<Vec<u8>>,
-    line: u32,
-) -> Result<PlaceRow, TableFault>
-    ensures { (before : List PlaceRowValue) → AreLogsOf before logs.old → MatchResult result
-        (λ row. (place_fault columns.now before cells.now ≡ None)
-        × (row ≡ place_row_of columns.now line cells.now)
-        × AreLogsOf (before ++ row ∷ []) logs.new)
-        (RefusesAt line (place_fault columns.now before cells.now)) }
+    text: &[u8],
+    start: usize,
+) -> Result<Vec<PlaceRow>, TableFault>
+    requires { start ≤ length text.now }
+    ensures { (lines : List (List ℕ))
+        → FollowsFirst lines (Places columns.now) (drop start text.now) → MatchResult result
+        (λ rows. HasNoFault lines
+        × (rows.items ≡ place_rows_upto columns.now lines (length lines)))
+        (RefusesLines lines) }
 {
-    if cells.len() != columns.count {
-        return Err(TableFault::Line {
-            line,
-            fault: TableLineFault::Cells,
-        });
+    let mut cells = LineCells::new(alloc);
+    let mut logs = BTreeSet::new(alloc);
+    let mut rows = Vec::new(alloc);
+    let mut number = 1;
+    let mut next = start;
+    while let Some(at) = line_at(text, next) {
+        let line = &text[at.start..at.end];
+        let row = match line_row(alloc, columns, &mut cells, &mut logs, number, line) {
+            Ok(row) => row,
+            Err(fault) => return Err(fault),
+        };
+        push_some(&mut rows, row)?;
+        number += 1;
+        next = at.next;
     }
-    let place = cell_at(cells, columns.place);
-    let log = cell_at(cells, columns.log);
-    if is_blank(place) || is_blank(log) {
-        return Err(TableFault::Line {
-            line,
-            fault: TableLineFault::Place,
-        });
-    }
-    let log = trimmed(log);
-    if !is_new(alloc, logs, log)? {
-        return Err(TableFault::Line {
-            line,
-            fault: TableLineFault::DuplicateLog,
-        });
-    }
-    Ok(PlaceRow::new(alloc, line, trimmed(place), log)?)
+    Ok(rows)
 }
 
-/// The row of the line behind so many lines, unless it is blank.
+/// Adds a row, if there is one.
+fn push_some(rows: &mut Vec<PlaceRow>, row: Option<PlaceRow>) -> Result<(), AllocError>
+    ensures { OnOk result (rows.new.items ≡ rows.old.items ++ row_or_none row) }
+{
+    match row {
+        Some(row) => Ok(rows.push(row)?),
+        None => Ok(()),
+    }
+}
+
+/// The row of the line behind so many lines; `None` if all its cells are blank.
 fn line_row(
     alloc: Global,
     columns: &PlacesColumns,
@@ -167,44 +163,48 @@ fn line_row(
     }
 }
 
-/// Adds a row, if there is one.
-fn push_some(rows: &mut Vec<PlaceRow>, row: Option<PlaceRow>) -> Result<(), AllocError>
-    ensures { OnOk result (rows.new.items ≡ rows.old.items ++ row_or_none row) }
-{
-    match row {
-        Some(row) => Ok(rows.push(row)?),
-        None => Ok(()),
-    }
-}
-
-/// The rows of a table of places whose second line begins at an offset of a text.
-pub(crate) fn read_place_rows(
+/// The row of a line's cells, after the rows whose logs are in the set.
+fn row_of(
     alloc: Global,
     columns: &PlacesColumns,
-    text: &[u8],
-    start: usize,
-) -> Result<Vec<PlaceRow>, TableFault>
-    requires { start ≤ length text.now }
-    ensures { (lines : List (List ℕ))
-        → FollowsFirst lines (Places columns.now) (drop start text.now) → MatchResult result
-        (λ rows. HasNoFault lines
-        × (rows.items ≡ place_rows_upto columns.now lines (length lines)))
-        (RefusesLines lines) }
+    cells: &LineCells,
+    logs: &mut BTreeSet<Vec<u8>>,
+    line: u32,
+) -> Result<PlaceRow, TableFault>
+    ensures { (before : List PlaceRowValue) → AreLogsOf before logs.old → MatchResult result
+        (λ row. (place_fault columns.now before cells.now ≡ None)
+        × (row ≡ place_row_of columns.now line cells.now)
+        × AreLogsOf (before ++ row ∷ []) logs.new)
+        (RefusesAt line (place_fault columns.now before cells.now)) }
 {
-    let mut cells = LineCells::new(alloc);
-    let mut logs = BTreeSet::new(alloc);
-    let mut rows = Vec::new(alloc);
-    let mut number = 1;
-    let mut next = start;
-    while let Some(at) = line_at(text, next) {
-        let line = &text[at.start..at.end];
-        let row = match line_row(alloc, columns, &mut cells, &mut logs, number, line) {
-            Ok(row) => row,
-            Err(fault) => return Err(fault),
-        };
-        push_some(&mut rows, row)?;
-        number += 1;
-        next = at.next;
+    if cells.len() != columns.count {
+        return Err(TableFault::Line {
+            line,
+            fault: TableLineFault::Cells,
+        });
     }
-    Ok(rows)
+    let place = cell_at(cells, columns.place);
+    let log = cell_at(cells, columns.log);
+    if is_blank(place) || is_blank(log) {
+        return Err(TableFault::Line {
+            line,
+            fault: TableLineFault::Place,
+        });
+    }
+    let log = trimmed(log);
+    if !note_log(alloc, logs, log)? {
+        return Err(TableFault::Line {
+            line,
+            fault: TableLineFault::DuplicateLog,
+        });
+    }
+    Ok(PlaceRow::new(alloc, line, trimmed(place), log)?)
+}
+
+/// Puts a log into the set of those before. Returns whether it is new.
+fn note_log(alloc: Global, logs: &mut BTreeSet<Vec<u8>>, log: &[u8]) -> Result<bool, AllocError>
+    ensures { IfOk result (λ new. (before : List PlaceRowValue) → AreLogsOf before logs.old
+        → TellsNewLog before log.now new logs.new) }
+{
+    Ok(logs.insert(log.to_vec(alloc)?)?)
 }

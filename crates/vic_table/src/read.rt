@@ -24,22 +24,6 @@ pub enum Table {
     Places(Places),
 }
 
-/// The columns that the first line of a text names.
-fn head_columns(alloc: Global, text: &[u8], at: LineAt) -> Result<Columns, TableFault>
-    requires order { at.start ≤ at.end }
-    requires bound { at.end ≤ length text.now }
-    ensures { let line = slice_range text.now at.start at.end in MatchResult result
-        (λ c. (columns_of line ≡ Some c)
-        × (option_or (bytes_fault 0 line) (first_line_fault line) ≡ None))
-        (RefusesAt 1 (option_or (bytes_fault 0 line) (first_line_fault line))) }
-{
-    let line = &text[at.start..at.end];
-    if let Some(fault) = bytes_fault(0, line) {
-        return Err(TableFault::Line { line: 1, fault });
-    }
-    first_columns(&mut LineCells::new(alloc), line)
-}
-
 /// The table of a complete text: the items of a catalogue, or the rows of a table of places; or the
 /// text's first fault.
 pub fn read_table(text: Vec<u8>) -> Result<Table, TableFault>
@@ -66,4 +50,20 @@ pub fn read_table(text: Vec<u8>) -> Result<Table, TableFault>
             }
         }
     }
+}
+
+/// The columns that the first line of a text names.
+fn head_columns(alloc: Global, text: &[u8], at: LineAt) -> Result<Columns, TableFault>
+    requires order { at.start ≤ at.end }
+    requires bound { at.end ≤ length text.now }
+    ensures { let line = slice_range text.now at.start at.end in MatchResult result
+        (λ c. (columns_of line ≡ Some c)
+        × (option_or (bytes_fault 0 line) (first_line_fault line) ≡ None))
+        (RefusesAt 1 (option_or (bytes_fault 0 line) (first_line_fault line))) }
+{
+    let line = &text[at.start..at.end];
+    if let Some(fault) = bytes_fault(0, line) {
+        return Err(TableFault::Line { line: 1, fault });
+    }
+    first_columns(&mut LineCells::new(alloc), line)
 }

@@ -36,7 +36,7 @@ pub(crate) struct Tally {
     uids: u64,
 }
 
-/// For each length, how many runs are too short for a mask of fewer bits.
+/// A count of runs for each length of a mask.
 type RunsByLen = [usize; UID_BITS as usize + 1];
 
 /// The first open masks of what is left of some ranges when some keys are removed, `most` at most,
@@ -137,8 +137,9 @@ fn first_of(masks: Vec<Mask>, most: usize) -> Vec<Mask>
     masks
 }
 
-/// A length with so many runs that `most` masks are no longer, if there are so many runs. Each run
-/// has a mask of the least length for which it is long enough, or of one bit more.
+/// A length such that at least `most` open masks are no longer, if there are so many runs. Each run
+/// has an open mask of the least length for which it is long enough, or of one bit more: so the
+/// length is one more than that up to which there are `most` runs.
 fn len_of_first(runs: &RunsByLen, most: usize) -> u8
     ensures { result ≤ UID_BITS }
 {
@@ -152,7 +153,8 @@ fn len_of_first(runs: &RunsByLen, most: usize) -> u8
     UID_BITS
 }
 
-/// How many runs are left, by the least length of a mask for which they are long enough.
+/// For each length, how many of the runs that are left are long enough for a mask of it, and for no
+/// shorter one.
 fn runs_by_len(ranges: &Ranges<'_>, removed: &SortedKeys) -> RunsByLen {
     let mut runs = [0; UID_BITS as usize + 1];
     let mut left = Runs::new(0, ranges, removed.ahead());

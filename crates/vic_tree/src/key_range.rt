@@ -59,6 +59,7 @@ impl KeyRange {
         ensures value { result.now ≡ self.now ∷ [] }
         ensures is_range { IsKeyRange self.now }
     {
+        // a use of a field shows a proof the invariant
         let _ = &self.first;
         slice::from_ref(self)
     }

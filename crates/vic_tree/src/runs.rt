@@ -41,14 +41,14 @@ impl<'a> Runs<'a> {
         }
     }
 
-    /// The key from which on the runs are.
+    /// The key from which on runs are still to be taken out.
     pub(crate) fn from(&self) -> u64
         ensures { result ≡ self.now.0 }
     {
         self.from
     }
 
-    /// Leaves the keys before another one behind.
+    /// Skips the keys before another one.
     pub(crate) fn go_on(&mut self, from: u64)
         ensures { self.new ≡ (from, self.old.1, self.old.2) }
     {

@@ -1,6 +1,7 @@
-//! Keys in order, with the widest mask between them, stretch by stretch.
+//! Keys to be removed, in order, with the widest mask that each sixteen of them leave.
 //!
-//! Where only the first open masks are looked for, a stretch that has none of these is passed over.
+//! Where only the first open masks are looked for, a stretch whose widest mask comes behind those
+//! that were found is passed over, without a look at its keys.
 
 ghost use Rattle.std.specs.Prelude.{◌≡◌, ℕ, ◌+◌, ◌<◌, ◌≤◌, ◌⊎◌, ◌↔◌, true, IfOk, IsTrue};
 ghost use Rattle.std.specs.List.{All, Contains};
@@ -65,8 +66,9 @@ impl SpacedKeys {
         Ok(SpacedKeys { keys, stretches })
     }
 
-    /// Passes over masks that come behind all that are kept, from a key on, and returns the key
-    /// from which on others may begin. It begins at stretch number `at`, and says where it ended.
+    /// Passes over the stretches, from a key on, that have only masks behind all that are kept.
+    /// Returns the number of the first stretch that wasn't passed over, and the key from which on
+    /// masks may begin. Those before stretch number `at` were passed over already.
     fn pass(&self, at: usize, from: u64, kept: &ArrayVec<Mask, BUFFER>) -> (usize, u64)
         requires { AreKept kept.now.items }
         ensures from { from ≤ result.1 }

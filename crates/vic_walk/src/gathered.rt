@@ -50,7 +50,8 @@ impl Border {
 #[derive(Drop)]
 pub(crate) struct Gathered {
     borders: Vec<u64>,
-    /// In the cell of a border: where the last one stands that has this cell.
+    /// For each cell, where the border stands that was added last of those with this cell; 0, that
+    /// of the first key, while there is none.
     cache: Vec<u32>,
 }
 

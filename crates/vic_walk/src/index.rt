@@ -10,9 +10,9 @@ use vic_frame::UID_BITS;
 /// How many cells an index has at most, as a power of two: they take 4 MiB.
 const MOST_BITS: u32 = 20;
 
-/// How many borders at either end have no say in how wide the cells are: so many, or an eighth. Of
-/// nested masks around many UIDs some are far from all others: with a say, they would leave all
-/// others to a few cells.
+/// How many borders at either end aren't counted when the width of the cells is chosen: so many, or
+/// an eighth of all if these are fewer. Of nested masks around many UIDs some are far from all
+/// others: if they counted, all others would share a few cells.
 const FAR: usize = 128;
 
 /// A hint of where a key is among borders. Cells of one width cover the keys, but for those far
@@ -74,8 +74,9 @@ impl Index {
     }
 }
 
-/// The number of the last border up to a key, if it is `from` or one of the next three. There is
-/// no branch that depends on the key: a wrong guess by the processor takes longer than all of it.
+/// The number of the last border up to a key, if it is `from` or one of the next three; else some
+/// other number. There is no branch that depends on the key: a wrong guess by the processor takes
+/// longer than all of it.
 pub(crate) fn up_to(borders: &[u64], from: usize, key: u64) -> usize {
     match borders.get(from.saturating_add(1)..from.saturating_add(4)) {
         Some([first, second, third]) => from

@@ -44,10 +44,11 @@ pub fn first_lack(
         from: 0,
         states: PartStates::all_ready(alloc, Marks::all(alloc, ends.len())?),
     };
+    // found by halving, between a position before which all are met and the greatest that may be
+    // one: what is met before a position is met before each earlier one
     let mut met = 0;
     let mut most = upto;
     let mut middle = upto;
-    // found by halving: what is met before a position is met before each earlier one
     while met < most {
         candidates.go_to_first(lines, log_parts, middle)?;
         let lacking = candidates.lacking_before(alloc, lines, log_parts, ends, middle)?;
@@ -67,12 +68,15 @@ pub fn first_lack(
     Ok(met)
 }
 
-/// The slots that may lack tags, of which none comes before a position, and the states of all parts
-/// there.
+/// The slots that may lack tags: those that did by the UIDs open before the last position at which
+/// some did; at first all. They are walked from the first one on: there the states are kept.
 #[derive(Drop)]
 struct Candidates {
+    /// Their positions.
     slots: Marks,
+    /// A position before which there is none.
     from: usize,
+    /// The states of all parts at that position.
     states: PartStates,
 }
 

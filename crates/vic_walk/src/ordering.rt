@@ -27,7 +27,8 @@ pub(crate) fn in_order(alloc: Global, gathered: Gathered) -> Result<(Parts, Vec<
     if are_borders(&ranked) && have_ranks(&borders, &ranked, &ranks) {
         return Ok((Parts::between(ranked), ranks));
     }
-    // no log has so many borders that the ranks are wrong; but nothing is promised of them
+    // nothing is promised of the ranks, so they are checked; no log has so many borders that they
+    // are wrong
     let mut copied = Vec::new(alloc);
     copied.extend_from_slice(&borders)?;
     let parts = Parts::between(sorted(copied));

@@ -21,10 +21,11 @@ impl Span {
     }
 }
 
-/// Which parts an entry concerns, by their numbers, which are below 2^32. Until the borders are in
-/// order, the numbers are those of borders, by where they stand in `Gathered`. Of an entry that is
-/// no slot line `from` and `to` are the same, and of one that names no UID `own` is 0: nobody uses
-/// it.
+/// Which parts an entry concerns, by their numbers, which are below 2^32. Of an entry that is no
+/// slot line `from` and `to` are the same, and of one that names no UID `own` is 0: nobody uses it.
+///
+/// While the borders are gathered, each number is the place of a border in `Gathered` instead;
+/// `move_steps` replaces it by that of the part that begins there. The front page has an example.
 #[derive(Clone, Copy)]
 pub struct Step {
     /// Of a slot: the first of the parts whose UIDs lie in its mask.

@@ -14,7 +14,8 @@ abbrev pub RefusesAt : ℕ → Option TableLineFault → TableFault → Type 0
 RefusesAt number fault (Line n f) = (n ≡ number) × (fault ≡ Some f)
 RefusesAt number fault Memory = ⊤
 
--- the first fault of a row up to those of its UID by itself
+-- the first fault of a row, whatever its UID and the rows before: of its cells' number, of its cell
+-- `uid` by itself, or of a UID in another cell
 abbrev pub shape_fault : CatalogueColumns → List (List ℕ) → Option TableLineFault
 shape_fault c cells =
     if not (length cells == c.count) then Some fault.Cells
@@ -23,8 +24,8 @@ shape_fault c cells =
     else None
 
 -- the first fault of the cells `place` and `away`
-abbrev pub rest_fault : CatalogueColumns → List (List ℕ) → Option TableLineFault
-rest_fault c cells =
+abbrev pub place_or_away_fault : CatalogueColumns → List (List ℕ) → Option TableLineFault
+place_or_away_fault c cells =
     if is_blank_at cells c.place then Some fault.Place
     else if is_wrong_away cells c.away then Some fault.Away
     else None

@@ -15,6 +15,7 @@ pub record ItemAt : Type 0 where
   pub place : Option (List ℕ)
   pub away : Bool
 
+-- an item of the code, as this
 abbrev pub item_at : Item → ItemAt
 item_at item = record {
   line = item.line;

@@ -43,7 +43,7 @@ pub record IsWidestBelow (p : ℕ → Bool) (bound : ℕ) (m : BitMask) : Type 0
   pub least : (n : BitMask) → IsMask n → n.len ≤ UID_BITS → AllKeysPass p n
       → mirror n.value < bound → IsAtMost m n
 
--- the mask is such a one; or there is none, and no key below passes
+-- what was found below a key: the widest mask; or none, and no key below passes
 abbrev pub IsFoundBelow : (ℕ → Bool) → ℕ → Option BitMask → Type 0
 IsFoundBelow p bound (Some m) = IsWidestBelow p bound m
 IsFoundBelow p bound None = (k : ℕ) → k < bound → p k ≡ false

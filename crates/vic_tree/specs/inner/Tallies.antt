@@ -11,12 +11,13 @@ pub record IsTallyOf (ms : List BitMask) (t : Tally) : Type 0 where
   pub count : t.count ≡ length ms
   pub uids : t.uids ≡ sum (map size_of ms)
 
--- some masks in order, and additional ones, which are others
+-- the masks `ns`, in order, are the masks `ms` and additional ones
 pub record HasMore (IsMore : BitMask → Type 0) (ms ns : List BitMask) : Type 0 where
   pub rising : AllPairs ComesBefore ns
   pub members : (m : BitMask) → Contains ms m ⊎ IsMore m ↔ Contains ns m
 
--- the tally of some masks, and that of these and additional ones
+-- a step of counting: if `old` is the tally of some masks, and the additional ones are others,
+-- `new` is the tally of both
 abbrev pub Tallies : (BitMask → Type 0) → Tally → Tally → Type 0
 Tallies IsMore old new =
     (ms : List BitMask) → AllPairs ComesBefore ms → IsTallyOf ms old

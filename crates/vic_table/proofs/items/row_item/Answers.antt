@@ -9,7 +9,7 @@ returns-in-Some-clause-taken c = λ before h. (refl, item_fault-shape c.args.col
 pub returns-clause-taken : goal.returns-clause-taken
 returns-clause-taken c = λ before h.
     let uid = c.spelled_uid-uid.ensures ∙ ap spelled_uid c.cell_at.ensures in
-    let new = rw c.if-not-branch.false at (c.in_ok-is_new.ensures before h) in
-    row_done c.args.columns.now before c.args.cells.now c.args.line c.args.at.start c.args.at.end _ c.is_new.new.uids
-    (sym c.shape_fault.ensures ∙ c.in_default.is) (sym c.rest_fault.ensures ∙ c.in_default-rest_fault.is) new
+    let new = rw c.if-not-branch.false at (c.in_ok-note_uid.ensures before h) in
+    row_done c.args.columns.now before c.args.cells.now c.args.line c.args.at.start c.args.at.end _ c.note_uid.new.uids
+    (sym c.shape_fault.ensures ∙ c.in_default.is) (sym c.place_or_away_fault.ensures ∙ c.in_default-place_or_away_fault.is) new
     uid c.in_ok-place_at.ensures c.is_word_at.ensures refl refl refl

@@ -1,7 +1,6 @@
 use Rattle.vic_margin.proofs.Words.{◌≤◌, ◌==◌, ◌&&◌, ◌%◌, arith, nat_tests, rules, ◌≡◌, ◌+◌, ◌-◌, ℕ, length, slice_index}
 use Rattle.vic_margin.specs.UidMargins.{one_if}
-use Rattle.vic_margin.specs.inner.Trees.{ends}
-use Rattle.vic_margin.proofs.Trees.{count_raised, few_raised, one_more, way_end, way_start, way_step}
+use Rattle.vic_margin.proofs.Trees.{count_raised, few_raised, is_raised, one_more, way_end, way_start, way_step}
 use Rattle.vic_margin.proofs.counts.Counts.raise.Goals as goal
 use Rattle.vic_margin.proofs.counts.Counts.raise.Goals.{then-low-eq1, else-low-eq1, then-high-eq1, else-high-eq1}
 
@@ -11,7 +10,7 @@ loop-low-init c =
     way_start s.levels _ _ _ (omega (arith, s.leaves_half, c.requires.within)) (omega (arith, s.leaves_half)) (omega (arith, s.leaves_half, s.node_room, c.requires.within))
 
 -- the nodes at both ends are raised
-ends_raised : (c : goal.Joined-high-eq1) (n : ℕ) → slice_index c.if-high-eq1.nodes.items n ≡ slice_index c.loop-low.nodes.items n + one_if (ends c.loop-low.low c.loop-low.high n)
+ends_raised : (c : goal.Joined-high-eq1) (n : ℕ) → slice_index c.if-high-eq1.nodes.items n ≡ slice_index c.loop-low.nodes.items n + one_if (is_raised c.loop-low.low c.loop-low.high n)
 ends_raised c n =
     let low = c.loop-low.low in
     let high = c.loop-low.high in

@@ -1,6 +1,6 @@
 use Rattle.vic_table.proofs.Words.{◌≡◌, arith, common_steps}
 use Rattle.vic_table.proofs.Sets.{new_log}
-use Rattle.vic_table.proofs.place_rows.is_new.Goals as goal
+use Rattle.vic_table.proofs.place_rows.note_log.Goals as goal
 
 pub returns : goal.returns
 returns c = λ before h.
