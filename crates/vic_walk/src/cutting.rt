@@ -42,6 +42,7 @@ pub(crate) fn gather(alloc: Global, lines: &LogLines) -> Result<(Gathered, Vec<S
 }
 
 /// Adds the borders of a slot's mask. Returns where they stand.
+#[inline(always)]
 fn push_mask(
     borders: &mut Gathered,
     cursor: &RoundCursor,
@@ -66,6 +67,7 @@ fn push_mask(
 
 /// Adds the borders around the UID that an entry silences or hears. Returns where the first
 /// stands: that of the least border, which nobody uses, if it names none.
+#[inline(always)]
 fn push_named(borders: &mut Gathered, entry: &Entry) -> Result<u32, AllocError>
     ensures more { OnOk result (HasAll borders.old borders.new) }
     ensures key { IfOk result (HasKeyAt borders.new) }
@@ -95,6 +97,7 @@ fn push_named(borders: &mut Gathered, entry: &Entry) -> Result<u32, AllocError>
 
 /// Adds the borders of a block, and returns where they stand. If there is none, since no slot or no
 /// UID is there, both are where the least border stands, with no part between them.
+#[inline(always)]
 fn push_block(borders: &mut Gathered, block: Option<KeyBlock>) -> Result<(u32, u32), AllocError>
     ensures more { OnOk result (HasAll borders.old borders.new) }
     ensures to { IfOk result (λ r. r.1 < length borders.new) }
@@ -114,6 +117,7 @@ fn push_block(borders: &mut Gathered, block: Option<KeyBlock>) -> Result<(u32, u
 }
 
 /// Adds the borders around a UID. Returns where the first stands.
+#[inline(always)]
 fn push_uid(borders: &mut Gathered, uid: Uid) -> Result<u32, AllocError>
     ensures more { OnOk result (HasAll borders.old borders.new) }
     ensures uid { IfOk result (HasUidAt borders.new uid) }

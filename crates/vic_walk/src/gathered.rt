@@ -86,6 +86,7 @@ impl Gathered {
     }
 
     /// Where a border stands, if the cache still has it.
+    #[inline(always)]
     fn cached(&self, border: u64) -> Option<u32>
         ensures { IfSome result (StandsAt self.now border) }
     {
@@ -99,6 +100,7 @@ impl Gathered {
     }
 
     /// Adds a border. Returns where it stands. It also fails if 32 bits aren't enough for that.
+    #[inline(always)]
     pub(crate) fn push(&mut self, border: Border) -> Result<u32, AllocError>
         ensures more { OnOk result (HasAll self.old self.new) }
         ensures there { IfOk result (StandsAt self.new border.number) }

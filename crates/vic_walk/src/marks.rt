@@ -92,6 +92,7 @@ impl Bits {
     }
 
     /// The first bit, from a bit on, that is set in the word of that bit.
+    #[inline(always)]
     fn first_in_word(&self, from: usize) -> Option<usize>
         ensures first { IfSome result (IsFirst (is_set self.now) from) }
         ensures none { IfNone result (NoneBetween (is_set self.now) from
@@ -233,6 +234,7 @@ impl Marks {
     }
 
     /// Marks a number.
+    #[inline(always)]
     pub fn put(&mut self, number: usize)
         requires { number < length self.old }
         ensures { self.new ≡ slice_set self.old number true }
@@ -242,6 +244,7 @@ impl Marks {
     }
 
     /// Removes the mark of a number.
+    #[inline(always)]
     pub fn take(&mut self, number: usize)
         requires { number < length self.old }
         ensures { self.new ≡ slice_set self.old number false }
@@ -252,6 +255,7 @@ impl Marks {
     }
 
     /// The first marked number from `from` on and before `to`.
+    #[inline(always)]
     pub fn first(&self, from: usize, to: usize) -> Option<usize>
         ensures first { IfSome result (IsFirst (is_marked self.now) from) }
         ensures within { IfSome result (λ p. p < to) }
@@ -265,6 +269,7 @@ impl Marks {
     }
 
     /// The first marked number, from a number on.
+    #[inline(always)]
     fn next(&self, from: usize) -> Option<usize>
         ensures { IsNext (is_marked self.now) from result }
     {

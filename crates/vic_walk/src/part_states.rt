@@ -54,6 +54,7 @@ impl PartStates {
     }
 
     /// Makes a part Quiet, if it is Ready.
+    #[inline(always)]
     fn silence(&mut self, part: usize) -> Result<(), AllocError>
         requires { part < length self.old.ready }
         ensures ready { OnOk result ((p : ℕ) → is_marked self.new.ready p

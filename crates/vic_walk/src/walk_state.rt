@@ -45,6 +45,7 @@ impl WalkState {
 
     /// Rules out the parts of a span that are open and Ready, with this end. Returns whether one of
     /// them was heard.
+    #[inline(always)]
     fn rule_out(&mut self, span: Span, end: u32) -> bool
         requires { span.to ≤ length self.old.open.ready }
         ensures ruled_out { IsRuledOut self.old self.new (is_within span) end }
@@ -66,6 +67,7 @@ impl WalkState {
     /// other parts of the span that are open and Ready, with this end. Returns whether the replies
     /// are still borne out: `own` is in the span, open and Ready, and none of the parts now ruled
     /// out was heard.
+    #[inline(always)]
     fn hear(&mut self, span: Span, own: usize, end: u32) -> bool
         requires within { span.to ≤ length self.old.open.ready }
         requires own { own < length self.old.open.ready }
