@@ -21,10 +21,10 @@ SEED, NUMBER, PARTS = 15693, 100, 2
 UNSETTLED = "Found, if all logs count"
 READINGS = {"If replies were hidden": "hidden", "If the reader went deaf": "deaf"}
 DROP = """
-const data = new DataTransfer();
-for (const [name, text, lastModified] of arguments[0]) {
+const data = new DataTransfer(), now = Date.now();
+for (const [name, text, date] of arguments[0]) {
   const bytes = Uint8Array.from(atob(text), (it) => it.charCodeAt(0));
-  data.items.add(new File([bytes], name, lastModified ? { lastModified } : {}));
+  data.items.add(new File([bytes], name, { lastModified: date ?? now }));
 }
 const how = { dataTransfer: data, bubbles: true, cancelable: true };
 document.dispatchEvent(new DragEvent("drop", how));

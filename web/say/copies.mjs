@@ -7,7 +7,7 @@ import { count, dated, listing, printable } from "./words.mjs";
 /** @typedef {import("../judge/objects.mjs").CollectionObject} CollectionObject */
 /** @typedef {import("./shelves.mjs").Shelves} Shelves */
 /** @typedef {[string, Record<string, string>]} Button what it says and carries */
-/** @typedef {{name: string, of?: string, changed?: number, newer?: number, than?: string, sha256?: string, surveys?: string}} Aged a file */
+/** @typedef {{name: string, of?: string, changed?: number, newer?: number, than?: string, beside?: number, sha256?: string, surveys?: string}} Aged a file */
 /**
  * In a few words, in a sentence, and what to do; whether a headline says it that isn't complete, and
  * whether one of the logs may not count; buttons, of which each leaves out one of some logs, or says that it counts, or of which place; and
@@ -66,7 +66,7 @@ export function copies({ logs }, { isAsked }) {
     const when = (/** @type {string} */ date) => date && of !== ofOther ? ` of ${date}` : "";
     const heard = (/** @type {string} */ name) => `${nameOf(name)} (${count(named.get(name)?.certain ?? 0, "tag")})`;
     const buttons = /** @type {Button[]} */ ([[`Only ${other}${when(ofOther)}`, { "data-leave": later, "data-kept": first }],
-      [`Only ${one}${when(of)}`, { "data-leave": first, "data-kept": later }], ["Both: they are of different fields", { "data-both": later }]]);
+      [`Only ${one}${when(of)}`, { "data-leave": first, "data-kept": later }], ["Both: they are of different fields", { "data-both": [later, first].map((name) => olderOne(/** @type {Aged} */ (named.get(name)))).join() }]]);
     // where places are asked for, one of no place counts nowhere
     return { short: `say whether ${other} or ${one} counts`, isFirst: true, mayNotCount: true, cure: WHICH, logs: [later, first],
       words: `By its name, ${heard(later)} may be a later count than ${heard(first)}, or a copy.`, buttons: buttons.slice(0, isAsked ? 2 : 3) };
@@ -106,7 +106,7 @@ export function ofAPlace({ logs, items, unexpected, files, without_log }) {
 }
 
 /**
- * Logs of which all that was heard, two tags or more, belongs to one other place and isn't there; where of a log of that place the same is so,
+ * Logs of which all that was heard belongs to one other place and isn't there; where of a log of that place the same is so,
  * both in one.
  * @param {CollectionObject} object
  * @returns {Doubt[]}
@@ -115,7 +115,7 @@ export function interchanged({ logs, items }) {
   const misplaced = items.filter(({ state }) => state === "misplaced").flatMap(({ certain_in: its, place }) => its.map((at) => ({ at, place })));
   const heard = grouped(misplaced, ({ at }) => at), homes = logs.map(({ place, certain = 0 }, at) => {
     const all = heard.get(at) ?? [], home = all[0]?.place ?? null;
-    return place !== null && certain > 1 && all.length === certain && all.every((it) => it.place === home) ? home : null;
+    return place !== null && all.length && all.length === certain && all.every((it) => it.place === home) ? home : null;
   });
   return logs.flatMap(({ place, name, certain = 0 }, at) => {
     const home = homes[at], other = home === null ? -1 : logs.findIndex((log, it) => log.place === home && homes[it] === place);
@@ -135,15 +135,10 @@ export function interchanged({ logs, items }) {
  * By what a file is known of which something is said: one with other bytes, or beside a newer one, is asked about anew.
  * @param {Aged} file
  */
-const olderOne = ({ name, changed, newer, than, sha256, surveys }) => `${name} of ${changed}${insteadOf(than, newer)}${sha256 || surveys}`;
-/**
- * @param {string} [name] of the newer one
- * @param {number} [changed] when that was
- */
-export const insteadOf = (name, changed) => `, not ${name} of ${changed}: `;
+const olderOne = ({ name, changed, beside, sha256, surveys }) => `${name} of ${changed} beside ${beside}: ${sha256 || surveys}`;
 
 /**
- * Files of whose names newer ones were here, each by the shelf of its log: those of which it was said that they count, and the others.
+ * Files than which newer ones were here, each by the shelf of its log: those of which it was said that they count, and the others.
  * @param {Aged[]} files
  * @param {string[]} [both]
  * @returns {Doubt[]}
@@ -192,7 +187,7 @@ export function shared({ logs, items, unexpected }, shelves, asked) {
   for (const { certain_in: [first, ...rest] } of many) for (const at of rest) others[at].add(first) && others[first].add(at);
   for (const it of many) for (const at of it.certain_in) if ("place" in it && it.place === logs[at].place) atHome.add(at);
   // where nothing else was heard, and nothing that belongs there, perhaps that field wasn't counted
-  const isAlien = (/** @type {number} */ at) => share(at) === 1 && (logs[at].certain ?? 0) > 1 && logs[at].place !== null && !atHome.has(at);
+  const isAlien = (/** @type {number} */ at) => share(at) === 1 && logs[at].place !== null && !atHome.has(at);
   const share = (/** @type {number} */ at) => (logs[at].shared ?? 0) / (logs[at].certain || 1);
   const isAsked = (/** @type {number} */ at) => asked.includes(logs[at].name), ordered = [...logs.keys()].filter((at) => logs[at].shared)
     .sort((one, other) => Number(isAlien(other)) - Number(isAlien(one)) || share(other) - share(one) || other - one);
