@@ -83,6 +83,7 @@ Worker.prototype.postMessage = function (it) {
 ROWS = ".items :is(thead tr + tr, tbody tr)"
 #: What is said of a reader that may have gone deaf.
 IF_HEARD = "The one listed tag is here, and no other, if the reader heard to the end."
+MOVED = "1 item in the wrong place ({}, on Returns, belongs to A); nothing answered in A."
 OF_A_DEAF = "The one expected item is here, and no other, if the reader of {} heard to the end."
 CHOSEN = """
 const it = document.getElementById("text");
@@ -277,9 +278,9 @@ def test_a_keyboard_has_few_stops(page, file, part):
 
 
 def test_who_has_no_log_yet_is_told_what_one_is(page):
-    for words in ("A log says what a reader asked, and what came back each time",
-                  "The reader's software writes it", "isn't a log: it can't show whether a tag",
-                  "write uid as its first line, and open it with the logs."):
+    for words in ("that the reader's software wrote", "A log's first line begins with vicinity-log",
+                  "isn't a log: it can't show whether a tag was missed",
+                  "write uid as its first line, and open it as the catalogue."):
         assert words in page.said()
 
 
@@ -867,7 +868,7 @@ def test_items_without_a_place_are_not_called_in_place(page):
     books = b"uid,place\nE0040100000000A1,A\nE0040100000000B2,any\nE0040100000000B1,B\n"
     logs = {"A.log": log_of("I1 RA QA I1 S"), "B.log": log_of("I1 RB QB I1 S")}
     page.drop(**{"books.csv": books, **logs})
-    page.until("h1", "1 item missing.")
+    page.until("h1", "1 item missing (E0040100000000B1, of B).")
     assert page.texts(".lights dd")[:2] == ["2 of 2 logs", "2 of 3 items, 1 without a place"]
     page.drop(**{"books.csv": books.replace(b"any", b"B")})
     page.until(".lights dd", "2 of 3 items")
@@ -916,7 +917,8 @@ def test_items_that_are_not_on_their_shelves(page):
     page.drop(**{"catalogue": b"uid,title,place\nE0040100000000A1,Walden,one\n"
                  b"E0040100000000B2,Emma,one\nE0040100000000C3,Kim,two\n",
                  "one.log": log_of("I1 RA QA I1 S"), "two.log": log_of("I1 RA I1 S")})
-    page.until("h1", "1 item not heard on its shelf and 1 not known yet; count two again.")
+    page.until("h1", "1 item not heard on its shelf (Emma, of one) and 1 not known yet; count two "
+               "again.")
     assert page.texts(".logs summary")[0] == (
         "two: nothing is known of its field, since its log contradicts itself (line 5)")
     assert "send it and this page to whoever maintains the reader." in page.said()
@@ -941,7 +943,7 @@ def test_rows_without_a_tag(page):
     """They are counted, but nothing is known of them. Without a title the UID names an item."""
     catalogue = b"uid,title\nE0040100000000A1,Walden\nnone,Emma\n"
     page.drop(**{"catalogue": catalogue, "one.log": log_of("I1 RB QB I1 S")})
-    page.until("h1", "1 item missing, 1 not in the catalogue and 1 without a tag.")
+    page.until("h1", "1 item missing (Walden), 1 not in the catalogue and 1 without a tag.")
     assert page.texts(".lights dd")[:2] == ["1 of 1 log", "0 of 2 items, 1 without a tag"]
     names = "return [...document.querySelectorAll('.items th[scope=row]')]"
     assert page.run(f"{names}.map((it) => [it.cellIndex, it.innerText])") == [
@@ -953,7 +955,7 @@ def test_an_item_of_a_catalogue_with_many_columns_is_read_in_lines(page):
     columns = [f"column {number}" for number in range(20)]
     page.drop(**{"books.csv": f"uid,title,{','.join(columns)},place\nE0040100000000A1,Emma,"
                  f"{','.join(['available'] * 20)},A\n".encode(), "A.log": log_of("I1 S")})
-    page.until("h1", "1 item missing; nothing answered in A.")
+    page.until("h1", "1 item missing (Emma · available, of A); nothing answered in A.")
     for kind, width in ("print", 780), ("", 1000):
         page.media(kind)
         size = {"width": width, "height": 900, "deviceScaleFactor": 1, "mobile": False}
@@ -1051,15 +1053,15 @@ def test_the_next_catalogue_does_not_lose_the_places(page):
     """Nor do other places lose the catalogue."""
     page.drop(**{"books.csv": OF_A, "places.csv": b"place,log\nA,1.log\nReturns,2.log\n",
                  "1.log": log_of("I1 S"), "2.log": log_of("I1 RA QA I1 S")})
-    page.until("h1", "1 item in the wrong place; nothing answered in A.")
+    page.until("h1", MOVED.format("Emma"))
     page.drop(**{"better.csv": OF_A.replace(b"Emma", b"Kim")})
     page.until(".banner", "better.csv")
-    assert page.texts("h1") == ["1 item in the wrong place; nothing answered in A."]
+    assert page.texts("h1") == [MOVED.format("Kim")]
     page.drop(**{"others.csv": b"place,log\nA,2.log\nReturns,1.log\n"})
-    page.until("h1", OF_A_DEAF.format("A"))
+    page.until("h1", "if the readers of A and Returns heard to the end. But nothing answered in")
     assert "better.csv" in page.texts(".banner")[0] and "others.csv" in page.texts(".record")[0]
     page.drop(**{"places.csv": b"place,log\nA,1.log\nReturns,2.log\n"})
-    page.until("h1", "1 item in the wrong place; nothing answered in A.")
+    page.until("h1", MOVED.format("Kim"))
 
 
 # The file slow.log is read once `go` is called.

@@ -225,7 +225,7 @@ def test_where_a_reader_may_have_gone_deaf_nothing_is_green(page):
 
 # What keeps a collection that is complete from being green, and how it is said.
 NOT_SURE = {
-    "others may be hidden": ("B.log", log_of("I1 RB"), "others may be, if stronger replies hid"),
+    "others may be hidden": ("B.log", log_of("I1 RB"), "if stronger replies hid"),
     "places aren't asked for": ("books.csv", books((UID_A, ""), (UID_B, ""), head="uid,title"),
                                 "But where each belongs wasn't asked."),
     "two prove the same": ("A.log", field(UID_A, UID_B),
@@ -320,9 +320,9 @@ def test_a_column_of_nearly_that_name_asks_for_no_places(page):
 
 
 @pytest.mark.parametrize(("head", "rows", "meant"), [
-    ("uid,title,Shelf", (",A", ",B"), "'Shelf'"), ("uid,title,Regal", (",A", ",B"), "'Regal'"),
+    ("uid,title,Shelf", (",A", ",B"), "'Shelf'"), ("uid,title,Hylly", (",A", ",B"), "'Hylly'"),
     ("uid,title,Room,Shelf mark", (",1,a", ",1,b"), "'Room' or 'Shelf mark'"),
-    ("uid,title,Regal", (",A", ",A"), None), ("uid,title,author", (",x", ",y"), None)])
+    ("uid,title,Hylly", (",A", ",A"), None), ("uid,title,author", (",x", ",y"), None)])
 def test_a_column_that_may_say_where_items_belong_is_named(page, head, rows, meant):
     """It is called so, or it has the names of all logs. Whether it is that of places isn't
     guessed."""
@@ -336,15 +336,15 @@ def test_a_column_that_may_say_where_items_belong_is_named(page, head, rows, mea
 
 
 def test_a_catalogue_that_waits_names_the_column_of_shelves(page):
-    """So does one beside the log of one field, unless all is there."""
+    """So does one beside the log of one field."""
     shelves = books((UID_A, ",A"), (UID_B, ",B"), head="uid,title,Shelf")
     drop(page, {"books.csv": shelves})
     assert "If column 'Shelf' says" in page.texts(".doubts")[0]
     drop(page, {"A.log": field(UID_A)})
-    assert page.texts("h1") == ["1 item missing."]
+    assert page.texts("h1") == ["1 item missing (Walden · B)."]
     assert "If column 'Shelf' says" in page.texts(".doubts")[0]
     drop(page, {"A.log": field(UID_A, UID_B, asks=2)})
-    assert look(page) == "yes" and not page.texts(".doubts")
+    assert look(page) == "read" and "If column 'Shelf' says" in page.texts(".doubts")[0]
     drop(page, {"books.csv": BOTH})
     assert "rename" not in page.said()
 
@@ -472,7 +472,8 @@ def test_an_item_that_only_a_log_of_no_place_proves(page):
     assert page.texts(".items :is(thead tr + tr, tbody tr)") == [
         "cart.log", "Emma\nA\nE0040100000000A1"]
     drop(page, {"B.log": field(UID_A, UID_B)})
-    assert page.texts("#told h1")[0].startswith("1 item in the wrong place; no log of A,")
+    assert page.texts("#told h1")[0].startswith(
+        "1 item in the wrong place (Emma, on B, belongs to A); no log of A,")
     assert page.texts(".items :is(thead tr + tr, tbody tr)") == [
         "Shelf B", "take to A; also in cart.log\nEmma\nE0040100000000A1"]
 
@@ -605,8 +606,8 @@ def test_items_by_their_states(page):
     drop(page, {"books.csv": table, "A.log": field(UID_A),
                 "B.log": field(UID_B, UID_C, 0xE0 << 56)})
     assert page.texts("#told h1") == [
-        "1 item missing, 1 in the wrong place, 1 not in the catalogue, 1 back that should be away "
-        "and 1 without a tag."]
+        "1 item missing (Persuasion, of A), 1 in the wrong place (Walden, on B, belongs to A), 1 "
+        "not in the catalogue, 1 back that should be away and 1 without a tag."]
     assert page.texts(".items :is(thead tr + tr, tbody tr)")[:6] == [
         "Shelf A", "missing: look for it\nPersuasion\nE0040100000000E5",
         "Shelf B", "take to A\nWalden\nE0040100000000B2",
@@ -619,7 +620,8 @@ def test_the_example(page):
     files = {it.name: it.read_bytes() for it in sorted((TOP / "examples/collection").iterdir())}
     drop(page, files)
     assert page.texts("#told h1") == [
-        "1 item missing, 1 in the wrong place and 1 not known yet; count C again."]
+        "1 item missing (Walden, of A), 1 in the wrong place (The Time Machine, on A, belongs to "
+        "B) and 1 not known yet; count C again."]
     assert page.texts(".logs summary")[0] == (
         "C (shelf-c.log): 3 tags; left to ask: UIDs ending in E or F")
     # replies may be hidden only in the log that is to be counted again
@@ -684,13 +686,13 @@ def test_a_log_joins_a_collection_or_replaces_that_of_its_place(page):
     drop(page, {"books.csv": BOTH, "A.log": field(UID_A)})
     drop(page, {"B.log": field()})
     assert page.texts(".note") == ["B.log joined the logs that were here."]
-    assert page.texts("#told h1") == ["1 item missing; nothing answered in B."]
+    assert page.texts("#told h1") == ["1 item missing (Walden, of B); nothing answered in B."]
     assert page.run(TOLD) == f"{page.texts('.note')[0]} {page.texts('#told h1')[0]}"
     drop(page, {"B.txt": field(UID_B)})
     assert page.texts(".note") == ["B.log was replaced by what you opened under the same name."]
     assert look(page) == "yes"
     page.press("#back")
-    page.until("h1", "1 item missing; nothing answered in B.")
+    page.until("h1", "1 item missing (Walden, of B); nothing answered in B.")
     assert page.run(FOCUS) == page.texts("h1")[0]
     page.press("#back")
     page.until("h1", "1 item not counted; no log of B.")
@@ -728,7 +730,7 @@ def test_a_collection_of_older_files_is_asked_about(page):
 
 
 @pytest.mark.parametrize(("press", "headline"), [
-    (1, "1 item missing; nothing answered in A."),
+    (1, "1 item missing (Emma, of A); nothing answered in A."),
     (0, "All 2 expected items are here, and no others.")])
 def test_it_is_asked_which_of_two_counts(page, press, headline):
     """Until that is said, both are here, and nothing is green. Then the one that counts is of the
@@ -1276,7 +1278,7 @@ def test_who_opens_the_newer_file_once_more_takes_the_answer_back(page):
         pressed(page, "The older one counts")
         until_green(page)
         drop(page, {"B.log": field(*[UID_B][number:])}, {"B.log": NOON})
-    page.until("h1", "1 item missing; nothing answered in B.")
+    page.until("h1", "1 item missing (Walden, of B); nothing answered in B.")
 
 
 @pytest.mark.parametrize("is_at_once", [True, False])
@@ -1393,7 +1395,8 @@ def test_an_older_log_by_itself_is_asked_about(page, tmp_path):
     assert "Nothing to do" not in page.said()
     page.media("print")
     page.run(PRINTS)
-    assert page.said().startswith("This is no result yet: answer what is asked below")
+    assert page.texts(".asked") == [
+        "This is no result yet: answer what is asked below, in vicinity.html, with the files."]
     assert "Counted on" not in page.said()
     page.media()
     made = saved(page, tmp_path / "asked")
@@ -1703,7 +1706,7 @@ def test_one_button_for_many_logs_makes_nothing_green_that_is_doubtful(page, dou
     page.until(".note", "6 logs count by other names than their own")
     assert look(page) in ("read", "no")
     words = {"a day older": "the log of S3 is more than 12 hours older",
-             "hidden": "others may be, if stronger replies hid them",
+             "hidden": "if stronger replies hid them",
              "of a new name": "other.log is of no place"}[doubt]
     assert words in page.texts("h1")[0]
 

@@ -41,7 +41,7 @@ export const notes = (all) => all.map((it) => el("p", { class: "note" }, it));
  * @param {boolean} isAsked
  * @param {boolean} canPress whether it can be answered
  */
-export const noResult = (isAsked, canPress) => isAsked ? [el("p", { class: canPress ? "paper" : "" }, el("b", {}, NO_RESULT))] : [];
+export const noResult = (isAsked, canPress) => isAsked ? [el("p", { class: canPress ? "asked paper" : "asked" }, el("b", {}, NO_RESULT))] : [];
 
 /**
  * What isn't sure, with buttons that answer, and where none of them would leave out what can't be, with these, too.
