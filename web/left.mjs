@@ -74,15 +74,12 @@ export const leftAs = (list, how = "") => list.map((file) => /** @type {Left} */
  * @param {Entry[]} files
  * @param {CollectionObject} [object] of the collection, if it was judged
  */
-export function closedWith(left, files, object) {
-  const closed = rootsOf(files, object);
-  return [...left, ...leftAs(files)].map((it) => ({ ...it, how: "", closed: it.closed ?? closed }));
-}
+export const closedWith = (left, files, object, closed = rootsOf(files, object)) =>
+  [...left, ...leftAs(files)].map((it) => ({ ...it, how: "", closed: it.closed ?? closed }));
 
 /**
  * Puts it to what is known of the open files of a collection which newer ones aren't here: each that left it, or a collection with which it
- * has a root in common, unless one of its name that is as new is here, or itself. If one of its name is, that is the older one; otherwise
- * a log may be of any place.
+ * has a root in common.
  * @param {CollectionObject} object
  * @param {import("./opened.mjs").Collection} given
  */
@@ -91,47 +88,42 @@ export function putAges(object, { tables, logs, left }) {
   const known = new Set(named === undefined ? object.items.map(({ place }) => place ?? "") : logsNamed(named).map(({ log }) => log));
   // by what the library finds a log, or else its name
   const keyOf = (/** @type {string} */ name) => [name, name.split(/[/\\]/).pop() ?? "", stemOf(name), uncopied(stemOf(name))].find((it) => known.has(it)) ?? bareOf(name);
-  const keysOf = (/** @type {Entry} */ file, names = namesIn(file)) => isATable(file) && !strangeness(file) ? [`/${isPlaces(file)}`] : names.map(keyOf);
-  const files = new Map(logs.flatMap((file) => namesIn(file).map((name) => [name, file])));
-  const ofTables = tables.map((file, at) => ({ file, into: /** @type {Age} */ (object.files[at]), names: [file.name], keys: keysOf(file) }));
-  const ofLogs = object.logs.map((log) => {
-    const file = files.get(log.name) ?? { ...log, text: new Uint8Array() }, names = kindOf(file) === "surveys" ? [log.name] : namesIn(file);
-    return { file, into: /** @type {Age} */ (Object.assign(log, { was: file.was })), names, keys: names.map(keyOf) };
-  });
-  const open = [...ofTables, ...ofLogs], byKey = grouped(open.flatMap((it) => it.keys.map((key) => ({ key, it }))), ({ key }) => key);
-  for (const { file, into } of open) into.changed = file.changed;
-  const related = /** @type {Map<string[] | undefined, boolean>} */ (new Map());
-  for (const { file, closed, ...it } of left) {
-    if (!file || !madeOnce(related, closed, () => !closed || closed.some((root) => roots.has(root)))) continue;
-    const isOlder = (/** @type {typeof open[0]} */ one) => (one.file.changed ?? Infinity) < (file.changed ?? 0);
-    const isIt = (/** @type {typeof open[0]} */ one) => isSame(one.file, file) && (one.file.changed === file.changed || uncopied(bareOf(one.file.name)) === uncopied(bareOf(file.name)));
-    const late = keysOf(file).filter((key) => !byKey.get(key)?.some(({ it: one }) => !isOlder(one) || isSame(one.file, file)));
-    if (!late.length || open.some(isIt)) continue;
-    // what has no mark of a log, and no column of a catalogue, is one only by its name
-    const others = () => strangeness(file) && !MARK.test(startOf(file)) ? open.filter(({ names }) => names.some((name) => namesIn(file).some((other) => rootOf(other) === rootOf(name))))
-      : isATable(file) ? [] : ofLogs;
-    for (const one of new Set(late.flatMap((key) => byKey.get(key)?.map((its) => its.it) ?? others()))) if (isOlder(one)) add(one.into, file, it);
-  }
+  const files = new Map(logs.flatMap((file) => (file.was ? [file.name] : namesIn(file)).map((name) => [name, file])));
+  const ofLogs = object.logs.map((log) => ({ into: Object.assign(log, { was: files.get(log.name)?.was }), file: /** @type {Entry} */ (files.get(log.name)), names: [log.name] }));
+  const groups = /** @type {Map<string[] | undefined, boolean>} */ (new Map());
+  put([...tables.map((file, at) => ({ into: object.files[at], file, names: [file.name] })), ...ofLogs],
+    left.filter(({ closed }) => madeOnce(groups, closed, () => !closed || closed.some((root) => roots.has(root)))), keyOf);
 }
 
 /**
- * Puts it to what is known of a log by itself which newer ones of its name aren't here.
- * @param {Age} into
- * @param {Entry} entry
- */
-export function putAge(into, entry) {
-  const stemsIn = (/** @type {Entry} */ file) => namesIn(file).flatMap((name) => [bareOf(name), stemOf(name), uncopied(bareOf(name))]), stems = stemsIn(entry);
-  for (const { file, ...it } of entry.left ?? []) {
-    if (file && (entry.changed ?? Infinity) < (file.changed ?? 0) && stemsIn(file).some((stem) => stems.includes(stem)) && !isSame(entry, file)) add(into, file, it);
-  }
-}
-
-/**
+ * The same of a log by itself: which newer ones of its name aren't here.
  * @param {Age} into
  * @param {Entry} file
- * @param {{id: number, name: string}} left
  */
-function add(into, { changed = 0 }, { id, name }) {
-  into.beside = (into.beside ?? 0) + id;
-  if (changed > (into.newer ?? 0)) Object.assign(into, { newer: changed, than: name });
+export const putAge = (into, file) => put([{ into, file, names: [file.name] }], (file.left ?? []).filter((it) => it.file && namesIn(it.file).some((name) =>
+  namesIn(file).some((other) => stemOf(name) === stemOf(other) || uncopied(bareOf(name)) === uncopied(bareOf(other))))), bareOf);
+
+/**
+ * What left counts unless a file of its name that is as new is open, or itself. If an older one of its name is, that may not count; otherwise
+ * each log that is older.
+ * @param {{into: Age, file: Entry, names: string[]}[]} all
+ * @param {Left[]} left
+ * @param {(name: string) => string} keyOf
+ */
+function put(all, left, keyOf) {
+  const keysOf = (/** @type {Entry} */ file, names = namesIn(file)) => isATable(file) && !strangeness(file) ? [`/${isPlaces(file)}`] : names.map(keyOf);
+  const open = all.map((it) => ({ ...it, isLog: !isATable(it.file), keys: keysOf(it.file, [...it.names, it.file.was ?? it.names[0]]) }));
+  const byKey = grouped(open.flatMap((it) => it.keys.map((key) => ({ key, it }))), ({ key }) => key);
+  for (const { into, file: { changed } } of open) Object.assign(into, { changed, beside: undefined });
+  for (const { file, name: than, id } of left) {
+    if (!file) continue;
+    const { changed: newer = 0 } = file, isOlder = (/** @type {typeof open[0]} */ one) => (one.file.changed ?? Infinity) < newer;
+    const late = keysOf(file).filter((key) => !byKey.get(key)?.some(({ it }) => !isOlder(it) || isSame(it.file, file)));
+    const isHere = late.length && open.some((it) => isSame(it.file, file) && (it.file.changed === newer || uncopied(bareOf(it.file.name)) === uncopied(bareOf(file.name))));
+    // what has no mark of a log, and no column of a catalogue, is one only by its name
+    const isStray = strangeness(file) && !MARK.test(startOf(file)), its = namesIn(file).map(rootOf);
+    const others = () => open.filter(({ isLog, names }) => isStray ? names.some((name) => its.includes(rootOf(name))) : isLog && !isATable(file));
+    const beside = isHere ? [] : late.flatMap((key) => byKey.get(key)?.map(({ it }) => it) ?? others());
+    for (const { into } of new Set(beside.filter(isOlder))) Object.assign(into, { beside: (into.beside ?? 0) + id }, newer > (into.newer ?? 0) && { newer, than });
+  }
 }

@@ -18,8 +18,7 @@ import { STOPPED } from "./work.mjs";
  */
 
 /** Larger files are no logs, and no text for each browser. */
-const MOST_BYTES = 256_000_000, TOO_LARGE = "it has more than 256 MB";
-const NO_FILE = "it can't be read; open it again, or the files in it if it is a folder";
+const MOST_BYTES = 256_000_000, TOO_LARGE = "it has more than 256 MB", NO_FILE = "it can't be read; open it again, or the files in it if it is a folder";
 const NOT_WHOLE = "by its name it is still being downloaded or written: wait for that, or copy it again";
 /** What no name of a log has. */
 const CONTROL = /[\0-\x1F\x7F]/g, NO_TEXTS = "Leave out what doesn't belong here; save a spreadsheet as CSV; unpack what is packed (ZIP, gz).";
@@ -64,10 +63,7 @@ const namesOf = (list) => listing(list.map(({ name }) => printable(name)));
  * @param {Log[]} list
  * @param {{name: string, was?: string}[]} others
  */
-function sameAs(list, others) {
-  const stems = new Set(others.flatMap(stemsOf));
-  return list.filter((log) => stemsOf(log).some((stem) => stems.has(stem)));
-}
+const sameAs = (list, others, stems = new Set(others.flatMap(stemsOf))) => list.filter((log) => stemsOf(log).some((stem) => stems.has(stem)));
 
 /** @param {{name: string, was?: string}} log */
 const stemsOf = ({ name, was = name }) => [bareOf(name), bareOf(was)];
@@ -113,8 +109,7 @@ export function gathered(taken, all) {
   const isJoining = !isWhole && (earlier || !logs.length) && logs.every(({ made }) => !made), isLoose = !tables.length && !(isJoining && earlier);
   const what = earlier ? `${first.name}, ${count(before.length, "log")}` : firstOf(before.map(({ name }) => name), "and", MOST_LISTED);
   const isClosed = first && !isJoining && (earlier || !isLoose), closed = { name: `What was here (${what})`, how: "closed", id: 0 };
-  const over = isClosed ? [...closedWith(past, filesOf(entries), first.collection), ...earlier ? [] : [closed]] : past;
-  const note = isClosed ? `${wasEach([closed])[0]} ` : "";
+  const over = isClosed ? [...closedWith(past, filesOf(entries), first.collection), ...earlier ? [] : [closed]] : past, note = isClosed ? `${wasEach([closed])[0]} ` : "";
   if (isLoose) {
     const gone = isClosed ? [] : sameAs(entries, logs), words = note || replacing(gone, logs), away = [...over, ...leftAs(gone)];
     return [...isClosed ? [] : entries.filter((it) => !gone.includes(it)), ...logs.map((log) => ({ ...log, note: words.trimEnd() }))]
@@ -170,7 +165,7 @@ function joined(here, tables, logs, note, first) {
     was(gone.filter(isPlaces), `replaced by ${namesOf(tables.filter(isPlaces))}`) + (note.trim() && `${note.trim()} `) +
     (replacing(replaced, logs) || (more.length ? `${namesOf(more)} joined the logs that were here.` : ""));
   const opened = [...logs, ...tables], isBack = (/** @type {Left} */ one) => opened.some((it) => it.name === one.name && (it.changed ?? 0) >= (one.file?.changed ?? 0));
-  return collected({ tables: [...here.tables.filter((table) => !gone.includes(table)), ...tables], logs: [...kept, ...logs], both: here.both,
+  return collected({ tables: [...here.tables.filter((table) => !gone.includes(table)), ...tables], logs: [...kept, ...logs], both: globalThis.crypto?.subtle ? here.both : [],
     left: [...here.left.map((it) => isBack(it) ? { ...it, how: "" } : it), ...leftAs([...replaced, ...gone])] }, said.trimEnd());
 }
 
@@ -197,10 +192,8 @@ export function without({ tables, logs, both, left }, gone, kept, object) {
  * @param {string[]} names
  * @param {string[]} as
  */
-export function counted(given, names, as) {
-  const logs = calledAs(given.logs, names.flatMap((name, at) => [[name, as[at]], [as[at], name]]));
-  return collected({ ...given, logs }, asOthers(logs, [...names, ...as]).join(" "));
-}
+export const counted = (given, names, as, logs = calledAs(given.logs, names.flatMap((name, at) => [[name, as[at]], [as[at], name]]))) =>
+  collected({ ...given, logs }, asOthers(logs, [...names, ...as]).join(" "));
 
 /**
  * What is judged anew, with answers.
@@ -234,11 +227,8 @@ function asOthers(logs, names) {
  * @param {CollectionObject} object
  * @param {Collection} given
  */
-export function withFiles(object, given) {
-  const { logs, both, left } = given;
-  Object.assign(object, { both, left: [...wasEach(left), ...asOthers(logs, logs.map(({ name }) => name))] });
-  putAges(object, given);
-}
+export const withFiles = (object, given) => putAges(Object.assign(object, { both: given.both,
+  left: [...wasEach(given.left), ...asOthers(given.logs, given.logs.map(({ name }) => name))] }), given);
 
 /**
  * A log by itself with what is known of its file.

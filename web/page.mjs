@@ -19,8 +19,7 @@ const NOT_SAVED = "Nothing was saved: there isn't enough memory for it. Close ot
 const SAVED_COPY = "This is what a browser has saved of the page: its answers, without the logs. To go on, open these again.";
 
 const field = /** @type {HTMLTextAreaElement} */ (at("text")), files = /** @type {HTMLInputElement} */ (at("files"));
-const stop = at("stop"), status = at("status"), saves = at("save"), back = at("back"), close = at("close"), beside = at("beside");
-const pane = new Pane(field, shown, PASTE);
+const stop = at("stop"), status = at("status"), saves = at("save"), back = at("back"), close = at("close"), beside = at("beside"), pane = new Pane(field, shown, PASTE);
 
 /**
  * All that changes: what is here, and which of it is shown, none of several until one is pressed; what was here before each drop, paste
@@ -223,8 +222,7 @@ document.addEventListener("drop", (event) => {
 });
 /** Files are pasted anywhere; a text beside the field is opened as one. Cells of a spreadsheet come with a picture. */
 document.addEventListener("paste", (event) => {
-  const pasted = [...event.clipboardData?.files ?? []].filter(({ type }) => !type.startsWith("image/"));
-  const text = event.clipboardData?.getData("text/plain");
+  const pasted = [...event.clipboardData?.files ?? []].filter(({ type }) => !type.startsWith("image/")), text = event.clipboardData?.getData("text/plain");
   if (!pasted.length && (!text || isInField(event))) return;
   event.preventDefault();
   if (pasted.length) open(pasted); else open([new File([text ?? ""], PASTED)], PASTED);

@@ -17,12 +17,10 @@ import { count, dated, listing, printable } from "./words.mjs";
  */
 
 /** Of how many logs each has a button, by how much files of one count may differ, in ms, and how many tags are named that two logs prove. */
-const MOST_LEFT = 4, HALF_A_DAY = 43_200_000, MOST_TAGS = 5;
-const MOVED = "What moved in between isn't seen: count there again, unless the dates are only those of copies.";
+const MOST_LEFT = 4, HALF_A_DAY = 43_200_000, MOST_TAGS = 5, MOVED = "What moved in between isn't seen: count there again, unless the dates are only those of copies.";
 const COUNTS = "If the newer one counts, open it once more.", ALL_COUNT = "If the newer ones count, open them once more.";
 const IF_THEIRS = "If these aren't their logs, write a table of places, with the columns place and log.";
-const ONE_FILE = "One is a copy: leave out that of the shelf that wasn't counted, and count there.";
-const OLDER = "may be an older log of the same shelf: leave out the older.";
+const ONE_FILE = "One is a copy: leave out that of the shelf that wasn't counted, and count there.", OLDER = "may be an older log of the same shelf: leave out the older.";
 const OVERLAP = "The fields of two readers may overlap. If not, a log is an older one, or items were carried in between: count these fields again.";
 const WHICH = "Of one field only one log counts: which?";
 /** A page that came by http is given no sums. */
@@ -80,8 +78,7 @@ export function copies({ logs }, { isAsked }) {
  * @returns {Doubt[]}
  */
 export function ofAPlace({ logs, items, unexpected, files, without_log }) {
-  const places = without_log.filter((place) => files.length < 2 && stemOf(`${place}.log`) === place);
-  const homes = logs.map(() => /** @type {Set<string | null>} */ (new Set()));
+  const places = without_log.filter((place) => files.length < 2 && stemOf(`${place}.log`) === place), homes = logs.map(() => /** @type {Set<string | null>} */ (new Set()));
   for (const it of [...items, ...unexpected]) for (const at of it.certain_in) homes[at].add("place" in it ? it.place : null);
   const found = logs.flatMap(({ name, left_over }, at) => {
     const called = uncopied(stemOf(name)), isCopy = called !== stemOf(name) && places.includes(called);
@@ -166,8 +163,7 @@ export function older(files, both = []) {
 export function ofOtherDays(logs, both = []) {
   const newest = Math.max(0, ...logs.map(({ changed = 0 }) => changed)), isAsked = (/** @type {Aged} */ it) => it.newer && !both.includes(olderOne(it));
   const late = logs.filter((it) => (it.changed ?? newest) < newest - HALF_A_DAY && !isAsked(it)), names = late.map(({ name, of = name }) => of);
-  const key = [newest, ...late.map(olderOne)].join(), isOne = late.length === 1;
-  const [log, is, they] = isOne ? ["log", "is", "It is"] : ["logs", "are", "They are"];
+  const key = [newest, ...late.map(olderOne)].join(), isOne = late.length === 1, [log, is, they] = isOne ? ["log", "is", "It is"] : ["logs", "are", "They are"];
   const other = `${isOne ? "its file" : `the file of ${names[0]}`} is of ${dated(late[0]?.changed)}, the newest of ${dated(newest)}`;
   return !late.length ? [] : [{ short: `the ${log} of ${firstOf(names)} ${is} more than 12 hours older`, mayNotCount: true,
     words: `The ${log} of ${firstOf(names, "and", MOST_LISTED)} ${is} older than the others: ${other}.`,
