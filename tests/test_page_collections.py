@@ -247,7 +247,7 @@ def test_what_is_not_sure_is_not_green(page, why):
 def test_nothing_is_missing_without_the_light_of_a_deaf_reader(page, is_heard):
     """Nor without that of hidden replies: an item is missing only as far as no tag answered."""
     drop(page, {**COMPLETE, "A.log": field(UID_B, is_heard=is_heard, asks=2)})
-    assert page.texts("#told h1")[0].startswith("1 item missing")
+    assert page.texts("#told h1")[0].startswith("1 item may be missing")
     lights = dict(zip(page.texts(".lights dt")[2:], page.texts(".lights dd")[2:]))
     assert lights == ({} if is_heard else {"If the reader went deaf": "the answer may be wrong"})
     said = "deaf after the last answer of a tag, the answer may be wrong in the field of A"
@@ -712,7 +712,9 @@ def test_a_collection_of_older_files_is_asked_about(page):
     and stands on the page from then on."""
     drop(page, {**COMPLETE, "B.log": field()}, {name: NOON for name in COMPLETE})
     page.until("h1", "1 item missing")
-    drop(page, COMPLETE, {name: NOON - HOUR for name in COMPLETE})
+    older = {"books.csv": BOTH.replace(b"title", b"name"), "A.log": field(UID_A, asks=2),
+             "B.log": field(UID_B)}
+    drop(page, older, {name: NOON - HOUR for name in older})
     assert page.texts("h1") == ["All 2 expected items are in some log; but books.csv and the logs "
                                 "of A and B are older than those that were here."]
     (words,) = page.texts(".doubts b")
@@ -723,7 +725,7 @@ def test_a_collection_of_older_files_is_asked_about(page):
     page.press(".doubts button")
     page.until(".banner.yes h1", "All 2 expected items are here, and no others.")
     assert page.texts(".note") == [f"{words} It was answered here: 'The older ones count'."]
-    drop(page, {"A.log": field(UID_A, asks=2)}, {"A.log": NOON - HOUR // 2})
+    drop(page, {"A.log": field(UID_A, asks=3)}, {"A.log": NOON - HOUR // 2})
     assert page.texts("h1") == [
         "All 2 expected items are in some log; but the log of A is older than one that was here."]
     assert [it for it in page.texts(".note") if it.startswith("books.csv and B.log are older")]
@@ -735,8 +737,8 @@ def test_a_collection_of_older_files_is_asked_about(page):
 def test_it_is_asked_which_of_two_counts(page, press, headline):
     """Until that is said, both are here, and nothing is green. Then the one that counts is of the
     place of the other, and the focus is on what has changed."""
-    drop(page, {"books.csv": BOTH, "A.log": field(UID_A), "B.log": field(UID_B)})
-    drop(page, {"A (1).log": field()})
+    drop(page, COMPLETE, {name: NOON for name in COMPLETE})
+    drop(page, {"A (1).log": field()}, {"A (1).log": NOON})
     assert look(page) == "no"
     assert page.texts(".doubts button") == ["Only A.log", "Only A (1).log"]
     assert re.search(r"[Ss]ay whether A.log or A \(1\).log counts", page.texts("h1")[0])
@@ -1152,7 +1154,7 @@ def test_that_a_file_is_of_this_count_is_said_of_the_others_that_are_here(page):
 
 def test_an_older_file_that_counts_may_be_of_another_day(page):
     drop(page, COMPLETE, {name: NOON for name in COMPLETE})
-    drop(page, {"B.log": field(UID_B)}, {"B.log": NOON - 30 * DAY})
+    drop(page, {"B.log": field(UID_B, asks=2)}, {"B.log": NOON - 30 * DAY})
     assert page.texts("h1") == IS_OLDER
     page.press(".doubts button")
     page.until("h1", "items are in some log; but the log of B is more than 12 hours older.")
@@ -1202,14 +1204,19 @@ def test_an_older_catalogue_is_asked_about(page, tmp_path):
     assert "b.csv of 29 Oct 2026, " in page.run("return document.body.textContent")
 
 
-def test_the_catalogue_of_another_collection_is_no_older_one(page):
+@pytest.mark.parametrize(("catalogue", "log", "place", "is_asked"), [
+    ("south.csv", "K.log", "K", False), ("books 2.csv", "K.log", "K", True),
+    ("south.csv", "B-2026.log", "B-2026", True), ("south.csv", "K.log", "A", True)])
+def test_another_collection_is_no_older_one(page, catalogue, log, place, is_asked):
+    """Unless it has the name of a log, a catalogue or a place in common, without numbers."""
     drop(page, COMPLETE, {name: NOON for name in COMPLETE})
-    logs = {"A.log": field(UID_A), "B.log": field(UID_B)}
-    for name, is_asked in ("south.csv", False), ("books.csv", True):
-        drop(page, {name: BOTH, **logs}, {**{log: NOON for log in logs}, name: NOON - DAY})
-        assert (look(page) != "yes") == is_asked
-        page.press("#back")
-        page.until(".banner p", "books.csv")
+    files = {catalogue: books((UID_C, f",{place}")), log: field(UID_C)}
+    if place == "A":
+        files["places.csv"] = b"place,log\nA,K.log\n"
+    drop(page, files, {name: NOON - HOUR for name in files})
+    assert (look(page) != "yes") == is_asked
+    page.press("#back")
+    page.until(".banner.yes p", "books.csv")
 
 
 # What is opened of noon, or an hour before that, or pressed, until a newer file of a name is gone;
@@ -1313,6 +1320,8 @@ def test_an_older_table_of_places_is_asked_about(page):
     files = {**COMPLETE, "p.csv": b"place,log\nA,A\nB,B\n"}
     drop(page, files, {name: NOON for name in files})
     drop(page, {"q.csv": files["p.csv"]}, {"q.csv": NOON - HOUR})
+    assert look(page) == "yes"
+    drop(page, {"q.csv": files["p.csv"] + b"C,C\n"}, {"q.csv": NOON - HOUR})
     assert page.texts("h1")[0].endswith("but q.csv is older than one that was here.")
 
 
@@ -1853,7 +1862,8 @@ def test_what_is_saved_is_what_was_shown(page, tmp_path, wait):
     large = b"# a comment that takes time\n" * 40_000
     drop(page, COMPLETE)
     logs = {name: head + b"\n" + large + rest for name in ("A.log", "B.log")}
-    drop(page, {"other.csv": books((UID_C, ",A")), **logs})
+    drop(page, {"other.csv": books((UID_C, ",A")), **logs},
+         {name: NOON for name in ("other.csv", *logs)})
     heading = page.texts("h1")
     back = f"setTimeout(() => document.getElementById('back').click(), {wait});"
     made = saved(page, tmp_path / "saved", back)
@@ -1985,8 +1995,9 @@ def test_an_older_text_of_surveys_is_asked_about(page, surveys):
     files = {"books.csv": BOTH, "s1.txt": surveys[0], "s2.txt": surveys[1]}
     drop(page, files, {"books.csv": NOON, "s1.txt": NOON - 3 * HOUR, "s2.txt": NOON})
     assert look(page) == "yes"
-    drop(page, {"s2.txt": surveys[1]}, {"s2.txt": NOON - 2 * HOUR})
-    assert page.texts("h1") == IS_OLDER
+    drop(page, {"s2.txt": surveys[1] + surveys[1].replace(b" B.log", b" C.log")},
+         {"s2.txt": NOON - 2 * HOUR})
+    assert "the log of B is older than one that was here" in page.said()
 
 
 def test_an_answer_is_about_a_text_of_surveys(page, program, surveys, tmp_path):
@@ -2064,11 +2075,11 @@ def test_what_is_pasted_stays_until_there_is_a_catalogue(page, tmp_path):
 
 def test_what_was_left_out_stays_said(page):
     drop(page, COMPLETE)
-    drop(page, {"B (1).log": field(UID_B)[1:]})
+    drop(page, {"B (1).log": field(UID_B)[1:]}, {"B (1).log": NOON})
     drop(page, {"A.log": field(UID_A)})
     assert "B (1).log was left out: a log begins with 'vicinity-log'." in page.texts(".note")
-    drop(page, {"X.log": field(UID_C)})
-    page.press(".doubts button")
+    drop(page, {"X.log": field(UID_C)}, {"X.log": NOON})
+    pressed(page, "Leave out X.log")
     until_green(page)
     assert "X.log was left out." in page.texts(".note")
     drop(page, {"X.csv": BOTH})

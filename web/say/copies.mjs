@@ -122,7 +122,7 @@ export function interchanged({ logs, items }) {
     const swap = /** @type {Button[]} */ (isBoth ? [["Count each as the other", { "data-as": logs[other].name, "data-kept": name }]] : []);
     return [{ isFirst: true, mayNotCount: true, logs: [name], numbers,
       short: isBoth ? `say whether the logs of ${one} and ${where} were interchanged` : `say whether the log of ${one} is that of ${where}`,
-      words: `All ${count(certain, "tag")} in the log of ${one} belong to ${where}${isBoth ? `, and all in its log to ${one}` : ""}.`,
+      words: `${certain === 1 ? "The one tag" : `All ${count(certain, "tag")}`} in the log of ${one} ${certain === 1 ? "belongs" : "belong"} to ${where}${isBoth ? `, and all in its log to ${one}` : ""}.`,
       cure: isBoth ? "Were the two interchanged?" : `If it is the log of ${where}, call it so, and open all anew.`,
       buttons: [...swap, [`No: ${isBoth ? "each" : "it"} is of its place`, { "data-both": key }]] }];
   });
