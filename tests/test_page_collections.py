@@ -1265,6 +1265,71 @@ def pressed(page, words):
     page.wait(lambda: page.run(IS_DONE), page.said)
 
 
+# What is opened, so many hours after noon, or pressed, until files are here that are older than
+# one that isn't here any more; and until none are.
+TABLES = {"books.csv": BOTH, "places.csv": b"place,log\nA,A\nB,B\n"}
+OLD_A, NEW_A, OLD_B = {"A.log": field(UID_A)}, {"A.log": field()}, {"B.log": field(UID_B)}
+OLDER_THAN_GONE = {
+    "numbers behind dots": (
+        ({**TABLES, "A.20261130": field(), "B.20261130": field(UID_B)}, 1),
+        ({**TABLES, "A.20261129": field(UID_A), "B.20261129": field(UID_B)}, 0)),
+    "numbers, by a button": (({**TABLES, **OLD_B, "A.20261130": field()}, 1),
+                             ({"A.20261129": field(UID_A)}, 0), "Leave out A.20261130"),
+    "a copy that isn't read": ((COMPLETE, 0), ({"A (1).log": b" " + field()}, 1)),
+    "of no name that is here": ((COMPLETE, 0), ({"recount.log": b" " + field()}, 1)),
+    "a copy, by its button": (({"books.csv": BOTH, "A (1).log": field(), **OLD_B}, 1),
+                              "Leave out A (1).log", (OLD_A, 0)),
+    "by Back": ((COMPLETE, 0), (NEW_A, 1), "Back"),
+    "before Back": ((COMPLETE, 0), (NEW_A, 1), "Back", (COMPLETE, 0)),
+    "one between the two": (({**COMPLETE, **NEW_A}, 2), (OLD_A, 0), "The older one counts",
+                            ({"A.log": field(asks=2)}, 1), (OLD_A, 0)),
+    "answered of logs alone": (
+        ({**NEW_A, **OLD_B}, 1), (OLD_A, 0), "The older one counts",
+        ({"books.csv": b"PK\x03\x04"}, 0), "Leave out books.csv", (NEW_A, 1), (OLD_A, 0),
+        ({"books.csv": BOTH}, 0))}
+NO_OLDER = {
+    "counted again": ((COMPLETE, 0), (NEW_A, 1), ({"A.log": field(UID_A, asks=2)}, 2), (OLD_A, 3)),
+    "opened once more": ((COMPLETE, 0), (COMPLETE, 0)),
+    "by another name": (({"books.csv": BOTH, **OLD_B}, 0), ({"shelf.log": field(UID_A)}, 1),
+                        "Leave out shelf.log", (OLD_A, 1)),
+    "no log at all": ((COMPLETE, 0), ({"photo.jpg": b"\xff\xd8\xff\xe0\x00"}, 1))}
+
+
+@pytest.mark.parametrize("how", [*OLDER_THAN_GONE, *NO_OLDER])
+def test_what_is_older_than_a_file_that_is_gone_is_asked_about(page, how):
+    """Whatever its name, unless one of its name that is as new is here, or itself."""
+    for step in {**OLDER_THAN_GONE, **NO_OLDER}[how]:
+        if isinstance(step, str):
+            pressed(page, step)
+        else:
+            drop(page, step[0], {name: NOON + step[1] * HOUR for name in step[0]})
+    (headline,) = page.texts("h1")
+    assert (look(page) == "yes") == (how in NO_OLDER)
+    assert bool(re.match("All 2 expected items are in some log; but .* older than (one|those) "
+                         "that w", headline)) == (how in OLDER_THAN_GONE)
+
+
+def test_that_both_count_is_said_of_these_files(page):
+    drop(page, {"books.csv": books((UID_A, ""), (UID_B, ""), head="uid,title"),
+                "A.log": field(UID_A), "A (1).log": field(UID_B)})
+    pressed(page, "Both: they are of different fields")
+    assert "ay whether" not in page.texts("h1")[0]
+    drop(page, {"A (1).log": field(UID_B, asks=2)})
+    assert "ay whether A.log or A (1).log counts" in page.texts("h1")[0]
+
+
+def test_a_log_may_be_called_like_the_catalogue(page):
+    """Each has its own sum, and the button leaves the log out alone."""
+    log = field(UID_A)
+    page.run(DROP, [[name, b64encode(text).decode(), date] for name, text, date in (
+        ("A.csv", BOTH, NOON), ("A.csv", log, NOON - DAY), ("B.log", field(UID_B), NOON))])
+    page.until("h1", "the log of A is more than 12 hours older")
+    drawn = page.run("return document.body.textContent")
+    assert all(sha256(text).hexdigest() in drawn for text in (BOTH, log))
+    pressed(page, "Leave out A.csv")
+    page.until("h1", "no log of A")
+
+
 def test_a_newer_catalogue_that_a_button_left_out(page):
     """Is asked about at once; a table that was none isn't."""
     drop(page, {**COMPLETE, "books (1).csv": MORE}, {"books.csv": BEFORE, "books (1).csv": NOON})
@@ -1991,13 +2056,14 @@ def test_each_text_of_surveys_is_as_old_as_its_file(page, surveys):
         "All 2 expected items are in some log; but the log of A is more than 12 hours older."]
 
 
-def test_an_older_text_of_surveys_is_asked_about(page, surveys):
+def test_an_older_text_of_surveys_is_asked_about(page, program, surveys, tmp_path):
+    (tmp_path / "B.log").write_bytes(field(UID_B, asks=2))
+    other = program.run("survey", "B.log", cwd=tmp_path).out
     files = {"books.csv": BOTH, "s1.txt": surveys[0], "s2.txt": surveys[1]}
     drop(page, files, {"books.csv": NOON, "s1.txt": NOON - 3 * HOUR, "s2.txt": NOON})
     assert look(page) == "yes"
-    drop(page, {"s2.txt": surveys[1] + surveys[1].replace(b" B.log", b" C.log")},
-         {"s2.txt": NOON - 2 * HOUR})
-    assert "the log of B is older than one that was here" in page.said()
+    drop(page, {"s2.txt": other}, {"s2.txt": NOON - 2 * HOUR})
+    assert page.texts("h1") == IS_OLDER
 
 
 def test_an_answer_is_about_a_text_of_surveys(page, program, surveys, tmp_path):

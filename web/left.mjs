@@ -92,7 +92,7 @@ export function putAges(object, { tables, logs, left }) {
   const ofLogs = object.logs.map((log) => ({ into: Object.assign(log, { was: files.get(log.name)?.was }), file: /** @type {Entry} */ (files.get(log.name)), names: [log.name] }));
   const groups = /** @type {Map<string[] | undefined, boolean>} */ (new Map());
   put([...tables.map((file, at) => ({ into: object.files[at], file, names: [file.name] })), ...ofLogs],
-    left.filter(({ closed }) => madeOnce(groups, closed, () => !closed || closed.some((root) => roots.has(root)))), keyOf);
+    left.filter(({ closed }) => madeOnce(groups, closed, () => !closed?.length || closed.some((root) => roots.has(root)))), keyOf);
 }
 
 /**
