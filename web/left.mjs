@@ -85,11 +85,12 @@ export const closedWith = (left, files, object, closed = rootsOf(files, object))
  */
 export function putAges(object, { tables, logs, left }) {
   const named = object.files.find(({ text }) => text !== undefined)?.text, roots = new Set(rootsOf([...tables, ...logs], object));
-  const known = new Set(named === undefined ? object.items.map(({ place }) => place ?? "") : logsNamed(named).map(({ log }) => log));
+  const known = new Set(named === undefined ? object.items.flatMap(({ place }) => place ?? []) : logsNamed(named).map(({ log }) => log));
   // by what the library finds a log, or else its name
   const keyOf = (/** @type {string} */ name) => [name, name.split(/[/\\]/).pop() ?? "", stemOf(name), uncopied(stemOf(name))].find((it) => known.has(it)) ?? bareOf(name);
   const files = new Map(logs.flatMap((file) => (file.was ? [file.name] : namesIn(file)).map((name) => [name, file])));
-  const ofLogs = object.logs.map((log) => ({ into: Object.assign(log, { was: files.get(log.name)?.was }), file: /** @type {Entry} */ (files.get(log.name)), names: [log.name] }));
+  const fileOf = (/** @type {string} */ name) => files.get(name) ?? /** @type {Entry} */ ({ name, text: new Uint8Array() });
+  const ofLogs = object.logs.map((log) => ({ into: Object.assign(log, { was: fileOf(log.name).was }), file: fileOf(log.name), names: [log.name] }));
   const groups = /** @type {Map<string[] | undefined, boolean>} */ (new Map());
   put([...tables.map((file, at) => ({ into: object.files[at], file, names: [file.name] })), ...ofLogs],
     left.filter(({ closed }) => madeOnce(groups, closed, () => !closed?.length || closed.some((root) => roots.has(root)))), keyOf);
@@ -115,15 +116,15 @@ function put(all, left, keyOf) {
   const open = all.map((it) => ({ ...it, isLog: !isATable(it.file), keys: keysOf(it.file, [...it.names, it.file.was ?? it.names[0]]) }));
   const byKey = grouped(open.flatMap((it) => it.keys.map((key) => ({ key, it }))), ({ key }) => key);
   for (const { into, file: { changed } } of open) Object.assign(into, { changed, beside: undefined });
-  for (const { file, name: than, id } of left) {
-    if (!file) continue;
+  for (const { file, than, id } of left.flatMap(({ file, name, id }) => file ? [{ file, than: name, id }] : [])) {
     const { changed: newer = 0 } = file, isOlder = (/** @type {typeof open[0]} */ one) => (one.file.changed ?? Infinity) < newer;
     const late = keysOf(file).filter((key) => !byKey.get(key)?.some(({ it }) => !isOlder(it) || isSame(it.file, file)));
     const isHere = late.length && open.some((it) => isSame(it.file, file) && (it.file.changed === newer || uncopied(bareOf(it.file.name)) === uncopied(bareOf(file.name))));
     // what has no mark of a log, and no column of a catalogue, is one only by its name
     const isStray = strangeness(file) && !MARK.test(startOf(file)), its = namesIn(file).map(rootOf);
     const others = () => open.filter(({ isLog, names }) => isStray ? names.some((name) => its.includes(rootOf(name))) : isLog && !isATable(file));
-    const beside = isHere ? [] : late.flatMap((key) => byKey.get(key)?.map(({ it }) => it) ?? others());
+    // what counted as another is first of that one's name
+    const beside = isHere ? [] : late.flatMap((key) => byKey.get(key)?.map(({ it }) => it) ?? (file.was && key !== keyOf(file.name) ? [] : others()));
     for (const { into } of new Set(beside.filter(isOlder))) Object.assign(into, { beside: (into.beside ?? 0) + id }, newer > (into.newer ?? 0) && { newer, than });
   }
 }
