@@ -647,7 +647,7 @@ def test_a_log_is_judged_by_itself_when_it_is_opened(page):
     page.until(".logs h3", "1 tag is here, and no other.")
     page.wait(lambda: sorted(page.run("return window.asked")) == ["", "A.log", "B.log"])
     drawn = page.run("return document.querySelector('.logs').textContent")
-    assert "Emma · A E0040100000000A1" in drawn
+    assert "Emma E0040100000000A1" in drawn
 
 
 def test_logs_that_come_one_after_the_other_stay(page):
