@@ -1386,7 +1386,7 @@ def test_an_older_table_of_places_is_asked_about(page):
     drop(page, files, {name: NOON for name in files})
     drop(page, {"q.csv": files["p.csv"]}, {"q.csv": NOON - HOUR})
     assert look(page) == "yes"
-    drop(page, {"q.csv": files["p.csv"] + b"C,C\n"}, {"q.csv": NOON - HOUR})
+    drop(page, {"q.csv": b"place,log\nA,A.log\nB,B\n"}, {"q.csv": NOON - HOUR})
     assert page.texts("h1")[0].endswith("but q.csv is older than one that was here.")
 
 
