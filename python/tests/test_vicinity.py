@@ -65,6 +65,15 @@ class Frames(unittest.TestCase):
         with self.assertRaisesRegex(ValueError, "opposite order"):
             vicinity.parse_uid("A1000000000104E0")
 
+    def test_names_have_an_order(self):
+        """By which they are those of the texts: a set would pair them by chance."""
+        texts = b"uid\nE0040100000000A1\n", b"vicinity-log 3\n"
+        for names in {"books.csv", "A.log"}, {"books.csv": 1, "A.log": 2}, [["books.csv"], "A.log"]:
+            with self.subTest(names), self.assertRaises(TypeError):
+                vicinity.run("reconcile", *texts, names=names)
+        told = vicinity.run("reconcile", *texts, names=["books.csv", "A.log"])
+        self.assertEqual(told.status, 1)
+
     def test_masks_of_slots(self):
         self.assertEqual(vicinity.slot_mask(16, vicinity.Mask(4, 1), 10), (8, 0xA1))
         self.assertEqual(vicinity.slot_mask(1, vicinity.Mask(55, 0), 0), (55, 0))

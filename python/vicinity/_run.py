@@ -28,7 +28,8 @@ def _names(names: Sequence[str], count: int) -> bytes:
     """A line for each name; without any, empty ones."""
     if len(names) not in (0, count) or any("\n" in name for name in names):
         raise ValueError("there is one name for each text, without LF")
-    return "".join(f"{name}\n" for name in names or [""] * count).encode()
+    # what has no order pairs no names with texts
+    return "".join(name + "\n" for name in names[:] or [""] * count).encode()
 
 
 def run(command: str, *texts: BytesLike, names: Sequence[str] = ()) -> Written:
@@ -36,8 +37,9 @@ def run(command: str, *texts: BytesLike, names: Sequence[str] = ()) -> Written:
     `names` are those of the texts, in their order, as where the answer names files.
 
     Raises ValueError if the program has no such command, the texts aren't what it takes, or the
-    names aren't as many, or have LF; TypeError if a text isn't bytes or similar, MemoryError if
-    memory is refused, and OSError if the shared library can't be loaded."""
+    names aren't as many, or have LF; TypeError if a text isn't bytes or similar, or the names have
+    no order or aren't str; MemoryError if memory is refused, and OSError if the shared library
+    can't be loaded."""
     if command not in COMMANDS:
         raise ValueError(f"no command of the program: {command!r}")
     copies = [bytes_of(text) for text in texts]
