@@ -521,10 +521,11 @@ def test_it_is_asked_which_of_two_is_the_older(page, how, tmp_path):
     if how == "of one place":
         page.until("h1", "No log B-today of B, as p.csv names.")
         pressed(page, "It isn't of this count")
+    pressed(page, "The older one counts")
     page.until(".banner.yes h1", "All 3 expected items are here, and no others.")
     assert f"{later} was left out." in page.texts(".note")
     made = saved(page, tmp_path / "saved")
-    for _ in range(1 + (how == "of one place")):
+    for _ in range(2 + (how == "of one place")):
         page.press("#back")
     page.until("h1", "in both" if how != "of no place" else "is of no place")
     page.press(".doubts button", at)
