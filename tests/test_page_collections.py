@@ -21,10 +21,10 @@ SEED, NUMBER, PARTS = 15693, 100, 2
 UNSETTLED = "Found, if all logs count"
 READINGS = {"If replies were hidden": "hidden", "If the reader went deaf": "deaf"}
 DROP = """
-const data = new DataTransfer();
-for (const [name, text, lastModified] of arguments[0]) {
+const data = new DataTransfer(), now = Date.now();
+for (const [name, text, date] of arguments[0]) {
   const bytes = Uint8Array.from(atob(text), (it) => it.charCodeAt(0));
-  data.items.add(new File([bytes], name, lastModified ? { lastModified } : {}));
+  data.items.add(new File([bytes], name, { lastModified: date ?? now }));
 }
 const how = { dataTransfer: data, bubbles: true, cancelable: true };
 document.dispatchEvent(new DragEvent("drop", how));
@@ -247,7 +247,7 @@ def test_what_is_not_sure_is_not_green(page, why):
 def test_nothing_is_missing_without_the_light_of_a_deaf_reader(page, is_heard):
     """Nor without that of hidden replies: an item is missing only as far as no tag answered."""
     drop(page, {**COMPLETE, "A.log": field(UID_B, is_heard=is_heard, asks=2)})
-    assert page.texts("#told h1")[0].startswith("1 item missing")
+    assert page.texts("#told h1")[0].startswith("1 item may be missing")
     lights = dict(zip(page.texts(".lights dt")[2:], page.texts(".lights dd")[2:]))
     assert lights == ({} if is_heard else {"If the reader went deaf": "the answer may be wrong"})
     said = "deaf after the last answer of a tag, the answer may be wrong in the field of A"
@@ -521,10 +521,11 @@ def test_it_is_asked_which_of_two_is_the_older(page, how, tmp_path):
     if how == "of one place":
         page.until("h1", "No log B-today of B, as p.csv names.")
         pressed(page, "It isn't of this count")
+    pressed(page, "The older one counts")
     page.until(".banner.yes h1", "All 3 expected items are here, and no others.")
     assert f"{later} was left out." in page.texts(".note")
     made = saved(page, tmp_path / "saved")
-    for _ in range(1 + (how == "of one place")):
+    for _ in range(2 + (how == "of one place")):
         page.press("#back")
     page.until("h1", "in both" if how != "of no place" else "is of no place")
     page.press(".doubts button", at)
@@ -712,7 +713,9 @@ def test_a_collection_of_older_files_is_asked_about(page):
     and stands on the page from then on."""
     drop(page, {**COMPLETE, "B.log": field()}, {name: NOON for name in COMPLETE})
     page.until("h1", "1 item missing")
-    drop(page, COMPLETE, {name: NOON - HOUR for name in COMPLETE})
+    older = {"books.csv": BOTH.replace(b"title", b"name"), "A.log": field(UID_A, asks=2),
+             "B.log": field(UID_B)}
+    drop(page, older, {name: NOON - HOUR for name in older})
     assert page.texts("h1") == ["All 2 expected items are in some log; but books.csv and the logs "
                                 "of A and B are older than those that were here."]
     (words,) = page.texts(".doubts b")
@@ -723,7 +726,7 @@ def test_a_collection_of_older_files_is_asked_about(page):
     page.press(".doubts button")
     page.until(".banner.yes h1", "All 2 expected items are here, and no others.")
     assert page.texts(".note") == [f"{words} It was answered here: 'The older ones count'."]
-    drop(page, {"A.log": field(UID_A, asks=2)}, {"A.log": NOON - HOUR // 2})
+    drop(page, {"A.log": field(UID_A, asks=3)}, {"A.log": NOON - HOUR // 2})
     assert page.texts("h1") == [
         "All 2 expected items are in some log; but the log of A is older than one that was here."]
     assert [it for it in page.texts(".note") if it.startswith("books.csv and B.log are older")]
@@ -735,8 +738,8 @@ def test_a_collection_of_older_files_is_asked_about(page):
 def test_it_is_asked_which_of_two_counts(page, press, headline):
     """Until that is said, both are here, and nothing is green. Then the one that counts is of the
     place of the other, and the focus is on what has changed."""
-    drop(page, {"books.csv": BOTH, "A.log": field(UID_A), "B.log": field(UID_B)})
-    drop(page, {"A (1).log": field()})
+    drop(page, COMPLETE, {name: NOON for name in COMPLETE})
+    drop(page, {"A (1).log": field()}, {"A (1).log": NOON})
     assert look(page) == "no"
     assert page.texts(".doubts button") == ["Only A.log", "Only A (1).log"]
     assert re.search(r"[Ss]ay whether A.log or A \(1\).log counts", page.texts("h1")[0])
@@ -1152,7 +1155,7 @@ def test_that_a_file_is_of_this_count_is_said_of_the_others_that_are_here(page):
 
 def test_an_older_file_that_counts_may_be_of_another_day(page):
     drop(page, COMPLETE, {name: NOON for name in COMPLETE})
-    drop(page, {"B.log": field(UID_B)}, {"B.log": NOON - 30 * DAY})
+    drop(page, {"B.log": field(UID_B, asks=2)}, {"B.log": NOON - 30 * DAY})
     assert page.texts("h1") == IS_OLDER
     page.press(".doubts button")
     page.until("h1", "items are in some log; but the log of B is more than 12 hours older.")
@@ -1202,14 +1205,19 @@ def test_an_older_catalogue_is_asked_about(page, tmp_path):
     assert "b.csv of 29 Oct 2026, " in page.run("return document.body.textContent")
 
 
-def test_the_catalogue_of_another_collection_is_no_older_one(page):
+@pytest.mark.parametrize(("catalogue", "log", "place", "is_asked"), [
+    ("south.csv", "K.log", "K", False), ("books 2.csv", "K.log", "K", True),
+    ("south.csv", "B-2026.log", "B-2026", True), ("south.csv", "K.log", "A", True)])
+def test_another_collection_is_no_older_one(page, catalogue, log, place, is_asked):
+    """Unless it has the name of a log, a catalogue or a place in common, without numbers."""
     drop(page, COMPLETE, {name: NOON for name in COMPLETE})
-    logs = {"A.log": field(UID_A), "B.log": field(UID_B)}
-    for name, is_asked in ("south.csv", False), ("books.csv", True):
-        drop(page, {name: BOTH, **logs}, {**{log: NOON for log in logs}, name: NOON - DAY})
-        assert (look(page) != "yes") == is_asked
-        page.press("#back")
-        page.until(".banner p", "books.csv")
+    files = {catalogue: books((UID_C, f",{place}")), log: field(UID_C)}
+    if place == "A":
+        files["places.csv"] = b"place,log\nA,K.log\n"
+    drop(page, files, {name: NOON - HOUR for name in files})
+    assert (look(page) != "yes") == is_asked
+    page.press("#back")
+    page.until(".banner.yes p", "books.csv")
 
 
 # What is opened of noon, or an hour before that, or pressed, until a newer file of a name is gone;
@@ -1256,6 +1264,71 @@ def pressed(page, words):
     page.wait(lambda: any(it.startswith(words) for it in page.run(has)), lambda: words)
     page.press("button", [it.startswith(words) for it in page.run(has)].index(True))
     page.wait(lambda: page.run(IS_DONE), page.said)
+
+
+# What is opened, so many hours after noon, or pressed, until files are here that are older than
+# one that isn't here any more; and until none are.
+TABLES = {"books.csv": BOTH, "places.csv": b"place,log\nA,A\nB,B\n"}
+OLD_A, NEW_A, OLD_B = {"A.log": field(UID_A)}, {"A.log": field()}, {"B.log": field(UID_B)}
+OLDER_THAN_GONE = {
+    "numbers behind dots": (
+        ({**TABLES, "A.20261130": field(), "B.20261130": field(UID_B)}, 1),
+        ({**TABLES, "A.20261129": field(UID_A), "B.20261129": field(UID_B)}, 0)),
+    "numbers, by a button": (({**TABLES, **OLD_B, "A.20261130": field()}, 1),
+                             ({"A.20261129": field(UID_A)}, 0), "Leave out A.20261130"),
+    "a copy that isn't read": ((COMPLETE, 0), ({"A (1).log": b" " + field()}, 1)),
+    "of no name that is here": ((COMPLETE, 0), ({"recount.log": b" " + field()}, 1)),
+    "a copy, by its button": (({"books.csv": BOTH, "A (1).log": field(), **OLD_B}, 1),
+                              "Leave out A (1).log", (OLD_A, 0)),
+    "by Back": ((COMPLETE, 0), (NEW_A, 1), "Back"),
+    "before Back": ((COMPLETE, 0), (NEW_A, 1), "Back", (COMPLETE, 0)),
+    "one between the two": (({**COMPLETE, **NEW_A}, 2), (OLD_A, 0), "The older one counts",
+                            ({"A.log": field(asks=2)}, 1), (OLD_A, 0)),
+    "answered of logs alone": (
+        ({**NEW_A, **OLD_B}, 1), (OLD_A, 0), "The older one counts",
+        ({"books.csv": b"PK\x03\x04"}, 0), "Leave out books.csv", (NEW_A, 1), (OLD_A, 0),
+        ({"books.csv": BOTH}, 0))}
+NO_OLDER = {
+    "counted again": ((COMPLETE, 0), (NEW_A, 1), ({"A.log": field(UID_A, asks=2)}, 2), (OLD_A, 3)),
+    "opened once more": ((COMPLETE, 0), (COMPLETE, 0)),
+    "by another name": (({"books.csv": BOTH, **OLD_B}, 0), ({"shelf.log": field(UID_A)}, 1),
+                        "Leave out shelf.log", (OLD_A, 1)),
+    "no log at all": ((COMPLETE, 0), ({"photo.jpg": b"\xff\xd8\xff\xe0\x00"}, 1))}
+
+
+@pytest.mark.parametrize("how", [*OLDER_THAN_GONE, *NO_OLDER])
+def test_what_is_older_than_a_file_that_is_gone_is_asked_about(page, how):
+    """Whatever its name, unless one of its name that is as new is here, or itself."""
+    for step in {**OLDER_THAN_GONE, **NO_OLDER}[how]:
+        if isinstance(step, str):
+            pressed(page, step)
+        else:
+            drop(page, step[0], {name: NOON + step[1] * HOUR for name in step[0]})
+    (headline,) = page.texts("h1")
+    assert (look(page) == "yes") == (how in NO_OLDER)
+    assert bool(re.match("All 2 expected items are in some log; but .* older than (one|those) "
+                         "that w", headline)) == (how in OLDER_THAN_GONE)
+
+
+def test_that_both_count_is_said_of_these_files(page):
+    drop(page, {"books.csv": books((UID_A, ""), (UID_B, ""), head="uid,title"),
+                "A.log": field(UID_A), "A (1).log": field(UID_B)})
+    pressed(page, "Both: they are of different fields")
+    assert "ay whether" not in page.texts("h1")[0]
+    drop(page, {"A (1).log": field(UID_B, asks=2)})
+    assert "ay whether A.log or A (1).log counts" in page.texts("h1")[0]
+
+
+def test_a_log_may_be_called_like_the_catalogue(page):
+    """Each has its own sum, and the button leaves the log out alone."""
+    log = field(UID_A)
+    page.run(DROP, [[name, b64encode(text).decode(), date] for name, text, date in (
+        ("A.csv", BOTH, NOON), ("A.csv", log, NOON - DAY), ("B.log", field(UID_B), NOON))])
+    page.until("h1", "the log of A is more than 12 hours older")
+    drawn = page.run("return document.body.textContent")
+    assert all(sha256(text).hexdigest() in drawn for text in (BOTH, log))
+    pressed(page, "Leave out A.csv")
+    page.until("h1", "no log of A")
 
 
 def test_a_newer_catalogue_that_a_button_left_out(page):
@@ -1313,6 +1386,8 @@ def test_an_older_table_of_places_is_asked_about(page):
     files = {**COMPLETE, "p.csv": b"place,log\nA,A\nB,B\n"}
     drop(page, files, {name: NOON for name in files})
     drop(page, {"q.csv": files["p.csv"]}, {"q.csv": NOON - HOUR})
+    assert look(page) == "yes"
+    drop(page, {"q.csv": b"place,log\nA,A.log\nB,B\n"}, {"q.csv": NOON - HOUR})
     assert page.texts("h1")[0].endswith("but q.csv is older than one that was here.")
 
 
@@ -1853,7 +1928,8 @@ def test_what_is_saved_is_what_was_shown(page, tmp_path, wait):
     large = b"# a comment that takes time\n" * 40_000
     drop(page, COMPLETE)
     logs = {name: head + b"\n" + large + rest for name in ("A.log", "B.log")}
-    drop(page, {"other.csv": books((UID_C, ",A")), **logs})
+    drop(page, {"other.csv": books((UID_C, ",A")), **logs},
+         {name: NOON for name in ("other.csv", *logs)})
     heading = page.texts("h1")
     back = f"setTimeout(() => document.getElementById('back').click(), {wait});"
     made = saved(page, tmp_path / "saved", back)
@@ -1981,11 +2057,13 @@ def test_each_text_of_surveys_is_as_old_as_its_file(page, surveys):
         "All 2 expected items are in some log; but the log of A is more than 12 hours older."]
 
 
-def test_an_older_text_of_surveys_is_asked_about(page, surveys):
+def test_an_older_text_of_surveys_is_asked_about(page, program, surveys, tmp_path):
+    (tmp_path / "B.log").write_bytes(field(UID_B, asks=2))
+    other = program.run("survey", "B.log", cwd=tmp_path).out
     files = {"books.csv": BOTH, "s1.txt": surveys[0], "s2.txt": surveys[1]}
     drop(page, files, {"books.csv": NOON, "s1.txt": NOON - 3 * HOUR, "s2.txt": NOON})
     assert look(page) == "yes"
-    drop(page, {"s2.txt": surveys[1]}, {"s2.txt": NOON - 2 * HOUR})
+    drop(page, {"s2.txt": other}, {"s2.txt": NOON - 2 * HOUR})
     assert page.texts("h1") == IS_OLDER
 
 
@@ -2064,11 +2142,11 @@ def test_what_is_pasted_stays_until_there_is_a_catalogue(page, tmp_path):
 
 def test_what_was_left_out_stays_said(page):
     drop(page, COMPLETE)
-    drop(page, {"B (1).log": field(UID_B)[1:]})
+    drop(page, {"B (1).log": field(UID_B)[1:]}, {"B (1).log": NOON})
     drop(page, {"A.log": field(UID_A)})
     assert "B (1).log was left out: a log begins with 'vicinity-log'." in page.texts(".note")
-    drop(page, {"X.log": field(UID_C)})
-    page.press(".doubts button")
+    drop(page, {"X.log": field(UID_C)}, {"X.log": NOON})
+    pressed(page, "Leave out X.log")
     until_green(page)
     assert "X.log was left out." in page.texts(".note")
     drop(page, {"X.csv": BOTH})

@@ -1,16 +1,14 @@
 /** What is opened: files as logs, each with its text, or together a collection, which has none of its own. */
-import { hasUids, isBroken, isPlaces, isSpreadsheet, isStrange, kindOf, startOf, stemOf, surveyedIn, uncopied } from "./judge/files.mjs";
+import { isPlaces, isStrange, surveyedIn } from "./judge/files.mjs";
 import { grouped } from "./judge/groups.mjs";
-import { insteadOf } from "./say/copies.mjs";
-import { SENTENCES } from "./say/sentences.mjs";
+import { bareOf, closedWith, isATable, isCatalogue, leftAs, NO_LOG, putAge, putAges, strangeness, UNFINISHED } from "./left.mjs";
 import { firstOf, MOST_LISTED } from "./say/shelves.mjs";
 import { count, listing, printable } from "./say/words.mjs";
 import { STOPPED } from "./work.mjs";
 
 /** @typedef {import("./judge/files.mjs").Given} Given */
 /** @typedef {import("./judge/objects.mjs").CollectionObject} CollectionObject */
-/** @typedef {{name: string, how: string, keys: string[], changed?: number}} Left what isn't here any more: how it left, if that is said as
- *   long as it isn't back; and when it was changed: what has one of its keys may be an older file */
+/** @typedef {import("./left.mjs").Left} Left */
 /** @typedef {{tables: Entry[], logs: Entry[], both: string[], left: Left[]}} Collection with what was answered of its files */
 /**
  * A log, or a collection, with what was done to it last; or one that waits for its catalogue. Of a file it has when that was changed,
@@ -20,10 +18,7 @@ import { STOPPED } from "./work.mjs";
  */
 
 /** Larger files are no logs, and no text for each browser. */
-const MOST_BYTES = 256_000_000, TOO_LARGE = "it has more than 256 MB";
-const NO_FILE = "it can't be read; open it again, or the files in it if it is a folder", NO_LOG = "a log begins with 'vicinity-log'";
-/** How the name of a file ends while it is downloaded, or written. */
-const UNFINISHED = /\.(crdownload|opdownload|download|part|partial|filepart|tmp)$/i;
+const MOST_BYTES = 256_000_000, TOO_LARGE = "it has more than 256 MB", NO_FILE = "it can't be read; open it again, or the files in it if it is a folder";
 const NOT_WHOLE = "by its name it is still being downloaded or written: wait for that, or copy it again";
 /** What no name of a log has. */
 const CONTROL = /[\0-\x1F\x7F]/g, NO_TEXTS = "Leave out what doesn't belong here; save a spreadsheet as CSV; unpack what is packed (ZIP, gz).";
@@ -59,10 +54,6 @@ export async function read(file, signal, made) {
   } catch { return { ...entry, error: signal.aborted ? STOPPED : NO_FILE }; }
 }
 
-/** @param {Entry} entry */
-const isATable = (entry) => kindOf(entry) === "table";
-/** @param {Entry} entry */
-const isCatalogue = (entry) => isATable(entry) && !isPlaces(entry);
 /** @param {{name: string}[]} list */
 const namesOf = (list) => listing(list.map(({ name }) => printable(name)));
 
@@ -72,41 +63,30 @@ const namesOf = (list) => listing(list.map(({ name }) => printable(name)));
  * @param {Log[]} list
  * @param {{name: string, was?: string}[]} others
  */
-function sameAs(list, others) {
-  const stems = new Set(others.flatMap(stemsOf));
-  return list.filter((log) => stemsOf(log).some((stem) => stems.has(stem)));
-}
+const sameAs = (list, others, stems = new Set(others.flatMap(stemsOf))) => list.filter((log) => stemsOf(log).some((stem) => stems.has(stem)));
 
-/**
- * A name as other counts of the same have it: without folders, and without an ending that is no number; and as it will be when it is whole.
- * @param {string} name
- */
-const bareOf = (name) => stemOf(name.replace(UNFINISHED, "").replace(/\.\d+$/, "$&."));
 /** @param {{name: string, was?: string}} log */
 const stemsOf = ({ name, was = name }) => [bareOf(name), bareOf(was)];
 
 /**
- * What else has one of these may be another count of the same, or another version: a log has its names, and those of what was surveyed, each
- * also without a number that may be an ending; a table has its name, and that of its kind.
- * @param {Entry} entry
+ * The files that are here.
+ * @param {Entry[]} entries
  */
-const keysOf = (entry) => isATable(entry) ? [`${uncopied(stemOf(entry.name))}/`, ...strangeness(entry) ? [] : [`/${isPlaces(entry)}`]]
-  : [entry.name, entry.was ?? [], surveyedIn(entry)].flat().flatMap((name) => [bareOf(name), stemOf(name)]);
+export const filesOf = (entries) => entries.flatMap((it) => it.given ? [...it.given.tables, ...it.given.logs] : it);
 
 /**
- * Files that leave.
- * @param {Entry[]} list
- * @param {string | ((file: Entry) => string)} [how] nothing if it isn't said of each
+ * What was here before something, beside which what is here is remembered, as if it was closed. The example is no count.
+ * @param {Entry[]} entries
+ * @param {Entry[]} here
+ * @returns {Entry[]}
  */
-const leftAs = (list, how = "") => list.map((it) => /** @type {Left} */ (
-  { name: it.was ?? it.name, how: typeof how === "string" ? how : how(it), keys: keysOf(it), changed: it.changed }));
-
-/**
- * What left with a collection that is closed, or before: how isn't said of the next one, of which a table by another name is none. What was
- * called like a copy may have been a later count.
- * @param {Left[]} left
- */
-const closedWith = (left) => left.map((it) => ({ ...it, how: "", keys: it.keys.flatMap((key) => key[0] === "/" ? [] : [key, uncopied(key)]) }));
+export function backTo(entries, here) {
+  const leftOf = (/** @type {Entry[]} */ [it]) => (it?.given ?? it)?.left ?? [], files = filesOf(here);
+  const known = new Set([...filesOf(entries), ...leftOf(entries).flatMap(({ file }) => file ?? [])].map(({ text }) => text));
+  const away = closedWith(leftOf(here), files[0]?.made === EXAMPLE ? [] : files, here[0]?.collection).filter(({ file }) => file && !known.has(file.text));
+  return !away.length ? entries : entries.map((it) => it.given ? collected({ ...it.given, left: [...it.given.left, ...away] }, it.note)
+    : { ...it, told: undefined, said: undefined, left: [...it.left ?? [], ...away] });
+}
 
 /**
  * What was opened, as it is judged. Logs join others. Tables, or logs beside a collection that is here, belong to what is here, and what
@@ -128,9 +108,8 @@ export function gathered(taken, all) {
   const tables = rest.filter(isATable), logs = rest.filter((it) => !isATable(it));
   const isJoining = !isWhole && (earlier || !logs.length) && logs.every(({ made }) => !made), isLoose = !tables.length && !(isJoining && earlier);
   const what = earlier ? `${first.name}, ${count(before.length, "log")}` : firstOf(before.map(({ name }) => name), "and", MOST_LISTED);
-  const isClosed = first && !isJoining && (earlier || !isLoose), closed = { name: `What was here (${what})`, how: "closed", keys: [] };
-  const over = isClosed ? [...closedWith([...past, ...leftAs([...before, ...earlier?.tables ?? []])]), ...earlier ? [] : [closed]] : past;
-  const note = isClosed ? `${wasEach([closed])[0]} ` : "";
+  const isClosed = first && !isJoining && (earlier || !isLoose), closed = { name: `What was here (${what})`, how: "closed", id: 0 };
+  const over = isClosed ? [...closedWith(past, filesOf(entries), first.collection), ...earlier ? [] : [closed]] : past, note = isClosed ? `${wasEach([closed])[0]} ` : "";
   if (isLoose) {
     const gone = isClosed ? [] : sameAs(entries, logs), words = note || replacing(gone, logs), away = [...over, ...leftAs(gone)];
     return [...isClosed ? [] : entries.filter((it) => !gone.includes(it)), ...logs.map((log) => ({ ...log, note: words.trimEnd() }))]
@@ -142,13 +121,6 @@ export function gathered(taken, all) {
   const here = isJoining && earlier || { tables: [], both, logs: kept }, is = taken[0].made === EXAMPLE ? [IS_EXAMPLE] : [];
   return [joined({ ...here, left: [...over, ...more] }, tables, logs, [note, ...wasEach(more), ...is].join(" "), first)];
 }
-
-/**
- * Why a file belongs to no collection; empty if it may.
- * @param {Entry} entry
- */
-const strangeness = (entry) => kindOf(entry) !== "other" && (!isCatalogue(entry) || hasUids(entry)) ? "" : isBroken(entry) ? SENTENCES.tables.utf16[0]
-  : kindOf(entry) === "other" ? NO_LOG : isSpreadsheet(startOf(entry)) ? "save a spreadsheet as CSV" : "a catalogue has a column 'uid'";
 
 /**
  * What became of files.
@@ -176,7 +148,7 @@ function replacing(gone, logs) {
 
 /**
  * A collection with more files, of which each takes the place of one of its kind, or of its name; and what became of these. Where each
- * log belongs a new table of places says by their own names. That older files count instead of some is taken back as these are opened.
+ * log belongs a new table of places says by their own names.
  * @param {Collection} here
  * @param {Entry[]} tables
  * @param {Entry[]} logs
@@ -192,10 +164,9 @@ function joined(here, tables, logs, note, first) {
   const said = (old ? `${namesOf([old])}${had} was replaced by ${namesOf(tables.filter(isCatalogue))}. ` : "") +
     was(gone.filter(isPlaces), `replaced by ${namesOf(tables.filter(isPlaces))}`) + (note.trim() && `${note.trim()} `) +
     (replacing(replaced, logs) || (more.length ? `${namesOf(more)} joined the logs that were here.` : ""));
-  const opened = [...logs, ...tables], isBack = (/** @type {Left} */ one) => opened.some((it) => it.name === one.name && (it.changed ?? 0) >= (one.changed ?? 0));
-  return collected({ tables: [...here.tables.filter((table) => !gone.includes(table)), ...tables], logs: [...kept, ...logs],
-    both: here.both.filter((key) => !opened.some((it) => key.includes(insteadOf(it.name, it.changed)))),
-    left: [...here.left.filter((it) => !it.how || !isBack(it)), ...leftAs([...replaced, ...gone])] }, said.trimEnd());
+  const opened = [...logs, ...tables], isBack = (/** @type {Left} */ one) => opened.some((it) => it.name === one.name && (it.changed ?? 0) >= (one.file?.changed ?? 0));
+  return collected({ tables: [...here.tables.filter((table) => !gone.includes(table)), ...tables], logs: [...kept, ...logs], both: globalThis.crypto?.subtle ? here.both : [],
+    left: [...here.left.map((it) => isBack(it) ? { ...it, how: "" } : it), ...leftAs([...replaced, ...gone])] }, said.trimEnd());
 }
 
 /**
@@ -221,10 +192,8 @@ export function without({ tables, logs, both, left }, gone, kept, object) {
  * @param {string[]} names
  * @param {string[]} as
  */
-export function counted(given, names, as) {
-  const logs = calledAs(given.logs, names.flatMap((name, at) => [[name, as[at]], [as[at], name]]));
-  return collected({ ...given, logs }, asOthers(logs, [...names, ...as]).join(" "));
-}
+export const counted = (given, names, as, logs = calledAs(given.logs, names.flatMap((name, at) => [[name, as[at]], [as[at], name]]))) =>
+  collected({ ...given, logs }, asOthers(logs, [...names, ...as]).join(" "));
 
 /**
  * What is judged anew, with answers.
@@ -258,34 +227,17 @@ function asOthers(logs, names) {
  * @param {CollectionObject} object
  * @param {Collection} given
  */
-export function withFiles(object, { tables, logs, both, left }) {
-  Object.assign(object, { both, left: [...wasEach(left), ...asOthers(logs, logs.map(({ name }) => name))] });
-  const ageOf = agesBeside(left), files = new Map(logs.flatMap((it) => (kindOf(it) === "surveys" ? surveyedIn(it) : [it.name]).map((name) => [name, it])));
-  for (const [at, table] of tables.entries()) Object.assign(object.files[at], ageOf(table, keysOf(table)));
-  for (const log of object.logs) {
-    const file = files.get(log.name) ?? log;
-    Object.assign(log, { was: file.was, ...ageOf(file, [tables[1] ? [] : log.place ?? [], [log, file].map(stemsOf)].flat(2)) });
-  }
-}
+export const withFiles = (object, given) => putAges(Object.assign(object, { both: given.both,
+  left: [...wasEach(given.left), ...asOthers(given.logs, given.logs.map(({ name }) => name))] }), given);
 
 /**
  * A log by itself with what is known of its file.
  * @param {import("./judge/objects.mjs").LogObject} object
  * @param {Entry} entry
  */
-export const withFile = (object, entry) =>
-  Object.assign(object, { both: entry.both, ...agesBeside(entry.left ?? [])(entry, keysOf(entry)) });
-
-/**
- * By what was here: when a file was changed, and the newest one that had one of its keys, if it is older.
- * @param {Left[]} left
- * @returns {(file: {changed?: number}, keys: string[]) => Pick<import("./say/copies.mjs").Aged, "changed" | "newer" | "than">}
- */
-function agesBeside(left) {
-  const sorted = [...left].sort((one, other) => (one.changed ?? 0) - (other.changed ?? 0));
-  const last = new Map(sorted.flatMap((it) => it.keys.map((key) => /** @type {const} */ ([key, it]))));
-  return ({ changed }, keys) => keys.flatMap((key) => last.get(key) ?? []).reduce((age, { name, changed: newer = 0 }) =>
-    newer > (age.newer ?? changed ?? newer) ? { changed, newer, than: name } : age, /** @type {{changed?: number, newer?: number}} */ ({ changed }));
+export function withFile(object, entry) {
+  putAge(object, entry);
+  return Object.assign(object, { both: entry.both });
 }
 
 /**

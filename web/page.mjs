@@ -3,7 +3,7 @@ import { at } from "./draw/elements.mjs";
 import { Pane } from "./draw/pane.mjs";
 import { unfold, unfoldOnPaper } from "./draw/printing.mjs";
 import { isSpreadsheet, kindOf, startOf, stemOf } from "./judge/files.mjs";
-import { answered, counted, EXAMPLE, gathered, isUnanswered, PASTED, read, withFile, withFiles, without } from "./opened.mjs";
+import { answered, backTo, counted, EXAMPLE, filesOf, gathered, isUnanswered, PASTED, read, withFile, withFiles, without } from "./opened.mjs";
 import { bytesOf, unpacked } from "./packed.mjs";
 import { pageOf, save, withObjects } from "./saving.mjs";
 import { isForeign } from "./say/refused.mjs";
@@ -19,8 +19,7 @@ const NOT_SAVED = "Nothing was saved: there isn't enough memory for it. Close ot
 const SAVED_COPY = "This is what a browser has saved of the page: its answers, without the logs. To go on, open these again.";
 
 const field = /** @type {HTMLTextAreaElement} */ (at("text")), files = /** @type {HTMLInputElement} */ (at("files"));
-const stop = at("stop"), status = at("status"), saves = at("save"), back = at("back"), close = at("close"), beside = at("beside");
-const pane = new Pane(field, shown, PASTE);
+const stop = at("stop"), status = at("status"), saves = at("save"), back = at("back"), close = at("close"), beside = at("beside"), pane = new Pane(field, shown, PASTE);
 
 /**
  * All that changes: what is here, and which of it is shown, none of several until one is pressed; what was here before each drop, paste
@@ -45,7 +44,7 @@ const work = new Work(WORKER, bytesOf(MODULE), new TextEncoder().encode(SAMPLE["
 async function ask(entry) {
   wait();
   const { given, name, text, changed } = entry;
-  const done = await work.ask(given ? { files: filesOf(entry).map((file) => ({ name: file.name, text: file.text })) } : { name, text, changed });
+  const done = await work.ask(given ? { files: filesOf([entry]).map((file) => ({ name: file.name, text: file.text })) } : { name, text, changed });
   if (done.collection && given) withFiles(done.collection, given);
   if (done.told) withFile(done.told.object, entry);
   Object.assign(entry, done);
@@ -87,7 +86,7 @@ function draw() {
   drawList();
   saves.hidden = !(entry?.told && !isForeign(entry.told)) && !entry?.collection;
   beside.hidden = !!pending || entry?.given !== undefined || current < 0;
-  show(entry, openerOf(entry), (name) => name === undefined || filesOf(entry).some((file) => file.name === name));
+  show(entry, openerOf(entry), (name) => name === undefined || filesOf([entry]).some((file) => file.name === name));
   if (!now.isPressed || pending || entries.some(isUnanswered)) return;
   now.isPressed = false;
   focusOnHeading();
@@ -131,11 +130,8 @@ function take(taken, which = taken.length > 1 ? -1 : 0) {
 const keep = () => now.past.push({ entries: [...now.entries], current: now.current });
 
 back.addEventListener("click", () => now.past.splice(-1).forEach(({ entries, current }) =>
-  take(entries.map((entry) => entry.error === STOPPED ? { ...entry, error: undefined } : entry), current)));
+  take(backTo(entries, now.entries).map((entry) => entry.error === STOPPED ? { ...entry, error: undefined } : entry), current)));
 close.addEventListener("click", () => { keep(); take([]); });
-
-/** @param {Entry} [entry] */
-const filesOf = (entry) => [...entry?.given?.tables ?? [], ...entry?.given?.logs ?? []];
 
 /**
  * What is told of a log, with its text, also if something else is opened meanwhile, which stops what is judged.
@@ -157,13 +153,13 @@ const openerOf = (entry) => (number) => {
 
 shown.addEventListener("click", ({ target }) => {
   const { leave, kept, both, out, as } = /** @type {HTMLElement} */ (target).closest("button")?.dataset ?? {};
-  const entry = now.entries[now.current], { given, collection } = entry ?? {}, all = filesOf(entry), outs = out?.split(",").map(Number);
+  const entry = now.entries[now.current], { given, collection } = entry ?? {}, all = filesOf(entry ? [entry] : []), outs = out?.split(",").map(Number);
   if (!both && (!given || !leave && !out && !as)) return;
   keep();
   now.isPressed = true;
   if (both) take(now.entries.map((it) => it === entry ? answered(it, both.split("\n")) : it), now.current);
   else if (given) take(as && kept ? [counted(given, kept.split("\n"), as.split("\n"))]
-    : without(given, all.filter((it, index) => outs ? outs.includes(index) : leave?.split("\n").includes(it.name)), kept, collection));
+    : without(given, outs ? outs.map((it) => all[it]) : given.logs.filter(({ name }) => leave?.split("\n").includes(name)), kept, collection));
 });
 
 /**
@@ -226,8 +222,7 @@ document.addEventListener("drop", (event) => {
 });
 /** Files are pasted anywhere; a text beside the field is opened as one. Cells of a spreadsheet come with a picture. */
 document.addEventListener("paste", (event) => {
-  const pasted = [...event.clipboardData?.files ?? []].filter(({ type }) => !type.startsWith("image/"));
-  const text = event.clipboardData?.getData("text/plain");
+  const pasted = [...event.clipboardData?.files ?? []].filter(({ type }) => !type.startsWith("image/")), text = event.clipboardData?.getData("text/plain");
   if (!pasted.length && (!text || isInField(event))) return;
   event.preventDefault();
   if (pasted.length) open(pasted); else open([new File([text ?? ""], PASTED)], PASTED);

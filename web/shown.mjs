@@ -62,8 +62,7 @@ export function focusOnHeading() {
  * @returns {Node[]}
  */
 function nodesOf(entry, opener, canLeave) {
-  const { told, collection, error, cure = [], waits, given, name, files, note = "" } = entry;
-  const logs = given && (waits || error) ? given.logs.filter((it) => kindOf(it) !== "other") : [];
+  const { told, collection, error, cure = [], waits, given, name, files, note = "" } = entry, logs = given && (waits || error) ? given.logs.filter((it) => kindOf(it) !== "other") : [];
   // beside what is no table, or a table too many, the next catalogue wouldn't help
   const words = [...cure, ...files && (files.length > 1 || !given?.tables.some((it) => files.includes(it.name))) ? [THE_REST] : kept(logs)];
   const said = [...words.length ? [el("h2", {}, "What to do"), el("ul", { class: "steps" }, words.map((it) => el("li", {}, it)))] : [],
@@ -111,8 +110,7 @@ export function overview(entries, current) {
   if (current >= 0) return;
   const sums = tolds.map(({ name, told: { object: { answer, sha256 } } }) =>
     el("p", {}, `${printable(name)}: ${answer} · SHA-256 `, el("code", {}, sha256)));
-  const version = tolds.length ? `, by vicinity ${tolds[0].told.object.version}` : "";
-  const all = [words, ...entries.flatMap(({ said }) => said?.answered ?? [])];
+  const version = tolds.length ? `, by vicinity ${tolds[0].told.object.version}` : "", all = [words, ...entries.flatMap(({ said }) => said?.answered ?? [])];
   shown.replaceChildren(el("footer", { class: "record" }, ...sums, ...signed(all, `${count(many, "file")}${version}`)));
   headed(words, !entries.some(isUnanswered));
 }
@@ -124,8 +122,7 @@ export function overview(entries, current) {
  * @param {boolean} isPressed
  */
 function label(button, entry, isPressed) {
-  const { told, error = ".." } = entry, said = told && (entry.said ??= say(told));
-  const name = printable(entry.name), words = ` ${said?.headline ?? error}`;
+  const { told, error = ".." } = entry, said = told && (entry.said ??= say(told)), name = printable(entry.name), words = ` ${said?.headline ?? error}`;
   button.setAttribute("aria-pressed", String(isPressed));
   if (button.textContent === `${said?.sign ?? ""}${name}${words}`) return;
   button.replaceChildren(...said ? [el("span", { class: `sign ${said.look}`, "aria-hidden": "true" }, said.sign)] : [], el("b", {}, name), words);

@@ -33,10 +33,7 @@ export class Work {
     this.#worker = null;
     try {
       const worker = new Worker(this.code);
-      worker.onmessage = ({ data: { id, ...done } }) => {
-        this.#waiting.get(id)?.(done);
-        this.#waiting.delete(id);
-      };
+      worker.onmessage = ({ data: { id, ...done } }) => this.#waiting.get(id)?.(done);
       worker.onerror = () => this.stop(SENTENCES.failures.none);
       worker.postMessage(this.sent);
       this.#worker = worker;
@@ -58,6 +55,7 @@ export class Work {
       /** @type {Worker} */ (this.#worker).postMessage({ id, ...what, text }, text ? [text.buffer] : []);
     } catch { this.stop(SENTENCES.failures.none); }
     const sum = what.text ? await sumOf(what.text).catch(() => "") : "", done = await asked;
+    this.#waiting.delete(id);
     if (done.told) done.told.object.sha256 = sum;
     return done;
   }

@@ -147,7 +147,7 @@ class Asked(Command):
         said = within("collection", "--page", self.catalogue(
             "uid,<b>\nE0040100000000A1,</script><i>&\33\n"), self.names[1])[0].decode()
         self.assertEqual(drawn_in(said)[0]["items"][0]["cells"][1], "</script><i>&\33")
-        self.assertNotRegex(said, "<[bi]>|\33")
+        self.assertNotRegex(said.replace("<b>vicinity</b>", ""), "<[bi]>|\33")
 
     def test_of_many_logs_the_first_stand_in_the_page(self):
         """Those before that have to be counted again. Of the others stands what they rule out of
@@ -182,17 +182,18 @@ class Asked(Command):
                               for it in drawn], [(name, 15693_000, set())])
 
     def test_a_log_that_changes_meanwhile(self):
-        """What is said of the first is never said beside the second."""
+        """What is said of the first is never said beside the second, also where only its own list
+        was written meanwhile, which no survey has."""
         name, catalogue = self.write("a.log", log(ALL + HEARD_A)), self.catalogue("uid\nnone\n")
         pages = collection._page
+        for then in (NOTHING, log(ALL + HEARD_A) + b"U E0040100000000C3\n"):
+            def changed(*given):
+                self.write("a.log", then)
+                return pages(*given)
 
-        def changed(*given):
-            self.write("a.log", NOTHING)
-            return pages(*given)
-
-        with mock.patch.object(collection, "_page", changed):
-            self.assertEqual(within("collection", "--page", catalogue, name), (
-                b"", f"vicinity: {name} has changed since it was read first\n".encode(), 4))
+            with mock.patch.object(collection, "_page", changed):
+                self.assertEqual(within("collection", "--page", catalogue, name), (
+                    b"", f"vicinity: {name} has changed since it was read first\n".encode(), 4))
 
     def test_statuses(self):
         catalogue = self.catalogue("uid\nE0040100000000A1\n")

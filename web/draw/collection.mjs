@@ -161,8 +161,7 @@ function saidOf({ field, certain = 0, open = [], more }) {
   const [kind, , , line] = field.split(" "), where = `line ${parseInt(line)}`;
   if (kind === KIND.IMPOSSIBLE) return `nothing is known of its field, since its log contradicts itself (${where})`;
   if (kind === KIND.REFUSED) return `this log can't be read (${where}), so nothing is known of its field: copy it again, or count again`;
-  const proved = count(certain, "tag"), left = open.length - MOST_MASKS;
-  const others = more ? "more masks" : left > 1 ? `${left.toLocaleString("en")}\u00A0more masks` : "";
+  const proved = count(certain, "tag"), left = open.length - MOST_MASKS, others = more ? "more masks" : left > 1 ? `${left.toLocaleString("en")}\u00A0more masks` : "";
   return open.length ? `${proved}; left to ask: ${endings(open.slice(0, others ? MOST_MASKS : MOST_MASKS + 1).map(maskOf), others)}` : proved;
 }
 

@@ -18,8 +18,7 @@ const ASK_UNDER = "left, to ask again where a reply may have hidden others, when
  * @param {() => Node[]} more what is drawn of the log
  */
 export function maintainer(told, said, more) {
-  const ask = alsoHolds(told)?.ask ?? [], heard = ask.length ? [] : ifDeaf(told)?.ask ?? [];
-  const isLacking = !said.causes.length && !ask.length && !heard.length && !told.rows.length;
+  const ask = alsoHolds(told)?.ask ?? [], heard = ask.length ? [] : ifDeaf(told)?.ask ?? [], isLacking = !said.causes.length && !ask.length && !heard.length && !told.rows.length;
   return isLacking ? [] : [forReader("For whoever maintains the reader", () => [...why(told, said),
     ...toSend(ask, ASKED.hidden), ...toSend(heard.length ? ["F", ...heard] : [], told.cycles ? ASKED.heard : `${ASKED.heard} ${ASKED.noCycles}`),
     ...left(told), ...more()])];

@@ -88,8 +88,7 @@ function* unreadSlots(log, mayAsk) {
  */
 function byRound(causing) {
   const causes = [...grouped(causing, ({ round, reading }) => `${round} ${reading}`).values()].map((its) => {
-    const slots = [...new Map(its.map((slot) => [slot.number, slot])).values()].sort((one, other) => one.number - other.number);
-    const [{ reading, round, asked }] = its;
+    const slots = [...new Map(its.map((slot) => [slot.number, slot])).values()].sort((one, other) => one.number - other.number), [{ reading, round, asked }] = its;
     return { reading, round, asked, slots: slots.map(({ number }) => number), masks: slots.map(({ mask }) => mask),
       uids: slots.flatMap(({ uid }) => uid ?? []) };
   });

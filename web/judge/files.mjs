@@ -82,7 +82,7 @@ const cellsOf = (line, separator) => Array.from(line.matchAll(new RegExp(`("(?:[
  * Which logs a table of places names, that the library has accepted.
  * @param {string} text
  */
-const logsNamed = (text) => [",", ";", "\t"].map((separator) => {
+export const logsNamed = (text) => [",", ";", "\t"].map((separator) => {
   const [heads, ...rows] = text.split(/\r?\n/).map((line) => cellsOf(line, separator));
   const [place, log] = ["place", "log"].map((name) => heads.findIndex((head) => head.toLowerCase() === name));
   return rows.flatMap((cells) => cells[place] && cells[log] ? { place: cells[place], log: cells[log] } : []);

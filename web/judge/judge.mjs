@@ -42,13 +42,15 @@ export async function judgeAll(library, files) {
   const said = DECODED.decode(library.run("json-collection", texts).written), refused = said.match(REFUSED);
   if (refused) throw new Error(said, { cause: refusedIn(texts, Number(refused[1]), refused[2], refused[3]) });
   const object = JSON.parse(said), tables = files.filter((file) => kindOf(file) === "table");
-  const sums = new Map(await Promise.all(files.map(async ({ name, text }) => /** @type {const} */ ([name, await sumOf(text)]))));
+  // a log may be called like a table
+  const sums = new Map(await Promise.all(files.map(async (it) => /** @type {const} */ ([it, await sumOf(it.text)]))));
+  const logs = new Map(files.flatMap((it) => kindOf(it) === "table" ? [] : [[it.name, sums.get(it)]]));
   shareLists([...object.items, ...object.unexpected]);
-  const denied = deniedIn(object, texts), surveys = new Map(files.flatMap((it) => surveyedIn(it).map((name) => [name, sums.get(it.name)])));
+  const denied = deniedIn(object, texts), surveys = new Map(files.flatMap((it) => surveyedIn(it).map((name) => [name, sums.get(it)])));
   return { ...object, version: versionOf(library.version), file: tables.find((file) => !isPlaces(file))?.name ?? "",
-    files: tables.map((it) => ({ file: it.name, sha256: sums.get(it.name) ?? "", text: isPlaces(it) ? new TextDecoder().decode(utf8Of(it.text)) : undefined })),
+    files: tables.map((it) => ({ file: it.name, sha256: sums.get(it) ?? "", text: isPlaces(it) ? new TextDecoder().decode(utf8Of(it.text)) : undefined })),
     logs: object.logs.map((/** @type {{name: string}} */ log, /** @type {number} */ at) =>
-      ({ ...log, sha256: sums.get(log.name) ?? "", denied: denied[at], surveys: surveys.get(log.name) })) };
+      ({ ...log, sha256: logs.get(log.name) ?? "", denied: denied[at], surveys: surveys.get(log.name) })) };
 }
 
 /**

@@ -55,8 +55,7 @@ export class Library {
   run(command, texts) {
     if (this.#broken) throw new Error("the module has failed: load it again");
     if (texts.some(({ name = "" }) => name.includes("\n"))) throw new RangeError("a name has no LF");
-    const names = ENCODER.encode(texts.map(({ name = "" }) => `${name}\n`).join(""));
-    const bytes = texts.map(({ text }) => typeof text === "string" ? ENCODER.encode(text) : text);
+    const names = ENCODER.encode(texts.map(({ name = "" }) => `${name}\n`).join("")), bytes = texts.map(({ text }) => typeof text === "string" ? ENCODER.encode(text) : text);
     if (bytes.some((it) => it.BYTES_PER_ELEMENT !== 1)) throw new TypeError("a text is a Uint8Array");
     /** @type {bigint[]} */
     const taken = [];

@@ -220,8 +220,7 @@ export class Log {
    */
   #slots(asked, outcomes) {
     return Array.from({ length: asked.slots }, (_, number) => {
-      const line = outcomes[number] ?? 0, reading = line ? this.reading(line) : "unreached";
-      const uid = line && this.isReply(line) ? uidIn(this.frame(line)) : null;
+      const line = outcomes[number] ?? 0, reading = line ? this.reading(line) : "unreached", uid = line && this.isReply(line) ? uidIn(this.frame(line)) : null;
       return /** @type {Slot} */ ({ line, number, mask: slotMask(asked, number), reading, uid, silenced: 0 });
     });
   }

@@ -37,6 +37,7 @@ export const KIND = Object.freeze({ COMPLETE: "complete", ABSENT: "absent", UNLI
  * @property {MaskFields} [weakest]
  * @property {number} [newer] when a file was that was here before it, if that is newer
  * @property {string} [than] the name of that file
+ * @property {number} [beside] by what answers know all that are newer
  * @property {string[]} [both] what was answered of it, by the keys of the questions
  */
 /** @typedef {{margin: number, weakest: MaskFields}} Margin in how many slots a tag that isn't listed would have had to be missed, and
@@ -61,7 +62,7 @@ export const KIND = Object.freeze({ COMPLETE: "complete", ABSENT: "absent", UNLI
  * `changed` is when the file was, and `newer` when one was of its name, called `than`, that isn't here any more; `surveys` is the sum of the text that has it.
  * @typedef {{name: string, place: string | null, left_over: boolean, field: string, answers?: number, certain?: number, shared?: number,
  *   open?: MaskFields[], more?: boolean, margin?: number, hidden?: MaskFields | null, deaf?: MaskFields | null, sha256?: string,
- *   object?: LogObject, denied?: string[], surveys?: string, was?: string, changed?: number, newer?: number, than?: string}} OneLog
+ *   object?: LogObject, denied?: string[], surveys?: string, was?: string, changed?: number, newer?: number, than?: string, beside?: number}} OneLog
  */
 /**
  * The object of a collection, as docs/answers.schema.json has it.
@@ -80,7 +81,7 @@ export const KIND = Object.freeze({ COMPLETE: "complete", ABSENT: "absent", UNLI
  * @property {Unexpected[]} unexpected
  * @property {string[]} without_log
  * @property {OneLog[]} logs
- * @property {{file: string, sha256: string, changed?: number, newer?: number, than?: string, text?: string}[]} files what was given beside the
+ * @property {{file: string, sha256: string, changed?: number, newer?: number, than?: string, beside?: number, text?: string}[]} files what was given beside the
  *   logs, of which only a table of places has its text
  * @property {string[]} [both] what was answered of its files, by the keys of the questions
  * @property {string[]} [left] what is said of files that were left out, or count as others, on which the answer rests

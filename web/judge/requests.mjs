@@ -28,8 +28,7 @@ export const NO_REQUESTS = { open: [], silenced: [], hidden: [], all: [], heard:
  */
 export function requestsOf(log, object, { open, quiet, hidden, causes }) {
   const { captured: ifHidden, status, certain, open: { masks, count } } = object, link = log.link, again = askedAgain(log, causes);
-  const own = masks.filter((_, at) => !quiet.has(open[at]) && !hidden.has(open[at]));
-  const isHiding = status < 2 && (ifHidden?.holds === false || ifHidden?.settled === false);
+  const own = masks.filter((_, at) => !quiet.has(open[at]) && !hidden.has(open[at])), isHiding = status < 2 && (ifHidden?.holds === false || ifHidden?.settled === false);
   const all = isHiding || again.length ? allButHeard(log, link) : [];
   return { open: openRequests(causes, own, link, open.length === count), silenced: masks.flatMap((mask, at) => quiet.has(open[at]) ? mask.ask : []),
     hidden: all.length > 1 && all.length < again.length ? all : again, all: isHiding ? all : [],
@@ -45,8 +44,7 @@ export function requestsOf(log, object, { open, quiet, hidden, causes }) {
  * @param {boolean} isAll whether no open mask lacks
  */
 function openRequests(causes, masks, link, isAll) {
-  const plain = masks.flatMap((mask) => mask.ask);
-  const cut = new Map(causes.filter((it) => it.reading === "unreached" && it.masks.length > 1).map((it) => [it.round, it.asked]));
+  const plain = masks.flatMap((mask) => mask.ask), cut = new Map(causes.filter((it) => it.reading === "unreached" && it.masks.length > 1).map((it) => [it.round, it.asked]));
   const asked = [...cut.values(), ...causes.flatMap(({ reading, round, masks: all }) => reading !== "captured" && !cut.has(round) ? all : [])];
   const isIn = (/** @type {Mask} */ { len, value }) => asked.some((mask) => mask.len <= len && hasUid(mask, value));
   return isAll && asked.length < plain.length && masks.map(maskOf).every(isIn) ? asked.map((mask) => sixteen(mask, link)) : plain;

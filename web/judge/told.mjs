@@ -78,8 +78,7 @@ export function tell(object, text = new TextEncoder().encode(object.text)) {
 function explain(log, told) {
   const { object, open } = told, lines = linesOf(object, "conflict");
   if (object.kind === KIND.IMPOSSIBLE) told.conflict = conflictOf(log, lines, linesOf(object, "silenced by")[0] ?? 0);
-  const { masks, tags } = silencedUnheard(log, open), quiet = new Set(masks);
-  const { causes, neverAsked, hidden } = causesOf(log, open.filter((mask) => !quiet.has(mask)));
+  const { masks, tags } = silencedUnheard(log, open), quiet = new Set(masks), { causes, neverAsked, hidden } = causesOf(log, open.filter((mask) => !quiet.has(mask)));
   Object.assign(told, { silenced: tags, quiet: masks.length, causes, neverAsked, isMore: hasMore(causes, object), last: log.lastRound,
     requests: requestsOf(log, object, { open, quiet, hidden, causes }) });
   told.named = named(told);

@@ -23,8 +23,7 @@ const NOT_SENT = "A Stay Quiet or another request was sent that isn't in the log
  * @returns {Contradiction}
  */
 export function contradiction(conflict, { counts, cycles }) {
-  const { heard: [one, other], unread, silent, silencer, link, count: number, first, last } = conflict, it = unread ?? one;
-  const sent = counts.quiets ? LEFT_OUT : NOT_SENT;
+  const { heard: [one, other], unread, silent, silencer, link, count: number, first, last } = conflict, it = unread ?? one, sent = counts.quiets ? LEFT_OUT : NOT_SENT;
   if (silencer && one) return woke(other ?? one, conflict, cycles);
   if (number === 1 && it) return alone(it, sent);
   if (unread) return { ...unmet(conflict, unread, sent), ask: [sixteen(unread.mask, link)] };
@@ -76,8 +75,7 @@ function alone(slot, sent) {
  * @returns {Contradiction}
  */
 function unmet({ count: number, first, last, heard }, unread, sent) {
-  const { line } = unread, two = unread.reading === "collision";
-  const others = number === 2 ? `line ${first === line ? last : first} leaves` : `${count(number - 1, "other line")} leave`;
+  const { line } = unread, two = unread.reading === "collision", others = number === 2 ? `line ${first === line ? last : first} leaves` : `${count(number - 1, "other line")} leave`;
   return { sentence: `in line ${line} ${two ? "two or more tags" : "a tag"} answered, but ${others} ${two ? "at most one" : "none"}.`,
     causes: [...last > line ? ["Later replies of these tags were lost.", `Tags left the field after line ${line}.`] : [],
       ...first < line ? [`Tags came into the field before line ${line}.`, "A silenced tag lost power for a moment and woke up.",
@@ -110,8 +108,7 @@ function hidden(first, last, sent) {
  * @returns {Contradiction}
  */
 function lost({ uid: known, line }, silent, sent) {
-  const came = silent < line, always = came ? "it came later, or its reply was lost before" : "its reply was lost, or a Stay Quiet isn't in the log";
-  const uid = known ?? 0n;
+  const came = silent < line, always = came ? "it came later, or its reply was lost before" : "its reply was lost, or a Stay Quiet isn't in the log", uid = known ?? 0n;
   return { sentence: `tag ${short(uid)} answered in line ${line}, but not in line ${silent}, where it was also asked.`,
     causes: [`Its reply in line ${silent} was lost: the tag is at the edge of the field, or something interfered.`,
       came ? `The tag came into the field after line ${silent}.` : `The tag left the field after line ${line}.`, sent, SECOND_READER],

@@ -7,7 +7,7 @@ import { count, dated, listing, printable } from "./words.mjs";
 /** @typedef {import("../judge/objects.mjs").CollectionObject} CollectionObject */
 /** @typedef {import("./shelves.mjs").Shelves} Shelves */
 /** @typedef {[string, Record<string, string>]} Button what it says and carries */
-/** @typedef {{name: string, of?: string, changed?: number, newer?: number, than?: string, sha256?: string, surveys?: string}} Aged a file */
+/** @typedef {{name: string, of?: string, changed?: number, newer?: number, than?: string, beside?: number, sha256?: string, surveys?: string}} Aged a file */
 /**
  * In a few words, in a sentence, and what to do; whether a headline says it that isn't complete, and
  * whether one of the logs may not count; buttons, of which each leaves out one of some logs, or says that it counts, or of which place; and
@@ -17,12 +17,10 @@ import { count, dated, listing, printable } from "./words.mjs";
  */
 
 /** Of how many logs each has a button, by how much files of one count may differ, in ms, and how many tags are named that two logs prove. */
-const MOST_LEFT = 4, HALF_A_DAY = 43_200_000, MOST_TAGS = 5;
-const MOVED = "What moved in between isn't seen: count there again, unless the dates are only those of copies.";
+const MOST_LEFT = 4, HALF_A_DAY = 43_200_000, MOST_TAGS = 5, MOVED = "What moved in between isn't seen: count there again, unless the dates are only those of copies.";
 const COUNTS = "If the newer one counts, open it once more.", ALL_COUNT = "If the newer ones count, open them once more.";
 const IF_THEIRS = "If these aren't their logs, write a table of places, with the columns place and log.";
-const ONE_FILE = "One is a copy: leave out that of the shelf that wasn't counted, and count there.";
-const OLDER = "may be an older log of the same shelf: leave out the older.";
+const ONE_FILE = "One is a copy: leave out that of the shelf that wasn't counted, and count there.", OLDER = "may be an older log of the same shelf: leave out the older.";
 const OVERLAP = "The fields of two readers may overlap. If not, a log is an older one, or items were carried in between: count these fields again.";
 const WHICH = "Of one field only one log counts: which?";
 /** A page that came by http is given no sums. */
@@ -66,7 +64,7 @@ export function copies({ logs }, { isAsked }) {
     const when = (/** @type {string} */ date) => date && of !== ofOther ? ` of ${date}` : "";
     const heard = (/** @type {string} */ name) => `${nameOf(name)} (${count(named.get(name)?.certain ?? 0, "tag")})`;
     const buttons = /** @type {Button[]} */ ([[`Only ${other}${when(ofOther)}`, { "data-leave": later, "data-kept": first }],
-      [`Only ${one}${when(of)}`, { "data-leave": first, "data-kept": later }], ["Both: they are of different fields", { "data-both": later }]]);
+      [`Only ${one}${when(of)}`, { "data-leave": first, "data-kept": later }], ["Both: they are of different fields", { "data-both": [later, first].map((name) => olderOne(/** @type {Aged} */ (named.get(name)))).join() }]]);
     // where places are asked for, one of no place counts nowhere
     return { short: `say whether ${other} or ${one} counts`, isFirst: true, mayNotCount: true, cure: WHICH, logs: [later, first],
       words: `By its name, ${heard(later)} may be a later count than ${heard(first)}, or a copy.`, buttons: buttons.slice(0, isAsked ? 2 : 3) };
@@ -80,8 +78,7 @@ export function copies({ logs }, { isAsked }) {
  * @returns {Doubt[]}
  */
 export function ofAPlace({ logs, items, unexpected, files, without_log }) {
-  const places = without_log.filter((place) => files.length < 2 && stemOf(`${place}.log`) === place);
-  const homes = logs.map(() => /** @type {Set<string | null>} */ (new Set()));
+  const places = without_log.filter((place) => files.length < 2 && stemOf(`${place}.log`) === place), homes = logs.map(() => /** @type {Set<string | null>} */ (new Set()));
   for (const it of [...items, ...unexpected]) for (const at of it.certain_in) homes[at].add("place" in it ? it.place : null);
   const found = logs.flatMap(({ name, left_over }, at) => {
     const called = uncopied(stemOf(name)), isCopy = called !== stemOf(name) && places.includes(called);
@@ -106,7 +103,7 @@ export function ofAPlace({ logs, items, unexpected, files, without_log }) {
 }
 
 /**
- * Logs of which all that was heard, two tags or more, belongs to one other place and isn't there; where of a log of that place the same is so,
+ * Logs of which all that was heard belongs to one other place and isn't there; where of a log of that place the same is so,
  * both in one.
  * @param {CollectionObject} object
  * @returns {Doubt[]}
@@ -115,7 +112,7 @@ export function interchanged({ logs, items }) {
   const misplaced = items.filter(({ state }) => state === "misplaced").flatMap(({ certain_in: its, place }) => its.map((at) => ({ at, place })));
   const heard = grouped(misplaced, ({ at }) => at), homes = logs.map(({ place, certain = 0 }, at) => {
     const all = heard.get(at) ?? [], home = all[0]?.place ?? null;
-    return place !== null && certain > 1 && all.length === certain && all.every((it) => it.place === home) ? home : null;
+    return place !== null && all.length && all.length === certain && all.every((it) => it.place === home) ? home : null;
   });
   return logs.flatMap(({ place, name, certain = 0 }, at) => {
     const home = homes[at], other = home === null ? -1 : logs.findIndex((log, it) => log.place === home && homes[it] === place);
@@ -125,7 +122,7 @@ export function interchanged({ logs, items }) {
     const swap = /** @type {Button[]} */ (isBoth ? [["Count each as the other", { "data-as": logs[other].name, "data-kept": name }]] : []);
     return [{ isFirst: true, mayNotCount: true, logs: [name], numbers,
       short: isBoth ? `say whether the logs of ${one} and ${where} were interchanged` : `say whether the log of ${one} is that of ${where}`,
-      words: `All ${count(certain, "tag")} in the log of ${one} belong to ${where}${isBoth ? `, and all in its log to ${one}` : ""}.`,
+      words: `${certain === 1 ? "The one tag" : `All ${count(certain, "tag")}`} in the log of ${one} ${certain === 1 ? "belongs" : "belong"} to ${where}${isBoth ? `, and all in its log to ${one}` : ""}.`,
       cure: isBoth ? "Were the two interchanged?" : `If it is the log of ${where}, call it so, and open all anew.`,
       buttons: [...swap, [`No: ${isBoth ? "each" : "it"} is of its place`, { "data-both": key }]] }];
   });
@@ -135,15 +132,10 @@ export function interchanged({ logs, items }) {
  * By what a file is known of which something is said: one with other bytes, or beside a newer one, is asked about anew.
  * @param {Aged} file
  */
-const olderOne = ({ name, changed, newer, than, sha256, surveys }) => `${name} of ${changed}${insteadOf(than, newer)}${sha256 || surveys}`;
-/**
- * @param {string} [name] of the newer one
- * @param {number} [changed] when that was
- */
-export const insteadOf = (name, changed) => `, not ${name} of ${changed}: `;
+const olderOne = ({ name, changed, beside, sha256, surveys }) => `${name} of ${changed} beside ${beside}: ${sha256 || surveys}`;
 
 /**
- * Files of whose names newer ones were here, each by the shelf of its log: those of which it was said that they count, and the others.
+ * Files than which newer ones were here, each by the shelf of its log: those of which it was said that they count, and the others.
  * @param {Aged[]} files
  * @param {string[]} [both]
  * @returns {Doubt[]}
@@ -171,8 +163,7 @@ export function older(files, both = []) {
 export function ofOtherDays(logs, both = []) {
   const newest = Math.max(0, ...logs.map(({ changed = 0 }) => changed)), isAsked = (/** @type {Aged} */ it) => it.newer && !both.includes(olderOne(it));
   const late = logs.filter((it) => (it.changed ?? newest) < newest - HALF_A_DAY && !isAsked(it)), names = late.map(({ name, of = name }) => of);
-  const key = [newest, ...late.map(olderOne)].join(), isOne = late.length === 1;
-  const [log, is, they] = isOne ? ["log", "is", "It is"] : ["logs", "are", "They are"];
+  const key = [newest, ...late.map(olderOne)].join(), isOne = late.length === 1, [log, is, they] = isOne ? ["log", "is", "It is"] : ["logs", "are", "They are"];
   const other = `${isOne ? "its file" : `the file of ${names[0]}`} is of ${dated(late[0]?.changed)}, the newest of ${dated(newest)}`;
   return !late.length ? [] : [{ short: `the ${log} of ${firstOf(names)} ${is} more than 12 hours older`, mayNotCount: true,
     words: `The ${log} of ${firstOf(names, "and", MOST_LISTED)} ${is} older than the others: ${other}.`,
@@ -192,7 +183,7 @@ export function shared({ logs, items, unexpected }, shelves, asked) {
   for (const { certain_in: [first, ...rest] } of many) for (const at of rest) others[at].add(first) && others[first].add(at);
   for (const it of many) for (const at of it.certain_in) if ("place" in it && it.place === logs[at].place) atHome.add(at);
   // where nothing else was heard, and nothing that belongs there, perhaps that field wasn't counted
-  const isAlien = (/** @type {number} */ at) => share(at) === 1 && (logs[at].certain ?? 0) > 1 && logs[at].place !== null && !atHome.has(at);
+  const isAlien = (/** @type {number} */ at) => share(at) === 1 && logs[at].place !== null && !atHome.has(at);
   const share = (/** @type {number} */ at) => (logs[at].shared ?? 0) / (logs[at].certain || 1);
   const isAsked = (/** @type {number} */ at) => asked.includes(logs[at].name), ordered = [...logs.keys()].filter((at) => logs[at].shared)
     .sort((one, other) => Number(isAlien(other)) - Number(isAlien(one)) || share(other) - share(one) || other - one);

@@ -78,7 +78,7 @@ function ofPlaces({ without_log, items, logs, files }, asked, known) {
   const stem = stemOf(lost[0]?.name ?? ""), near = items.find(({ place }) => place && stem.startsWith(place) && AS_OF.test(stem.slice(place.length)))?.place;
   const isOf = near ? `If ${names[0]} is of ${printable(near)}, call it ${printable(near)}.log; if that is here too, write a table of places, with a row for each. ` : "";
   const isNew = late.length ? `${last}, of ${dated(late[0].changed)}, is newer than the others: if it is a new count, call it as its place. ` : "";
-  const [cure, more] = isNone ? [NO_PLACE, {}] : table ? [`${named} ${NONE_NAMED}`, leaving([{ name: table.file }])] : [how + isOf + isNew + OTHERS, leaving(lost)];
+  const [cure, more] = isNone ? [NO_PLACE, {}] : table ? [`${named} ${NONE_NAMED}`, { logs: [table.file], buttons: [[`Leave out ${named}`, { "data-out": String(files.indexOf(table)) }]] }] : [how + isOf + isNew + OTHERS, leaving(lost)];
   const noPlace = { short: `${firstOf(names)} ${lost.length === 1 ? "is" : "are"} of no place`, isFirst: true, cure, ...more,
     words: `${count(lost.length, "log")} of no place: ${firstOf(names, "and", MOST_LISTED)}.` };
   return [...places.length && logs.length ? [noLog] : [], ...lost.length ? [noPlace] : []];

@@ -87,8 +87,7 @@ function possible(told, isAlone) {
   const whole = kind === KIND.COMPLETE && hasList, isHiding = (whole ? ifHidden?.holds : ifHidden?.settled) === false;
   const isSure = whole && !isHiding, only = ended && !hasList || whole, differs = found.absent || found.unlisted, why = whyOpen(told);
   // a listed tag that isn't proved may be one of those that answered
-  const lacks = told.isMore && !found.doubtful;
-  const list = isSure ? "matches" : whole ? "matches what was heard" : differs ? "differs" : lacks ? "incomplete" : "not known yet";
+  const lacks = told.isMore && !found.doubtful, list = isSure ? "matches" : whole ? "matches what was heard" : differs ? "differs" : lacks ? "incomplete" : "not known yet";
   // a list is green only if it is complete also if the reader went deaf
   const isGreen = isSure && isAlone && object.deaf?.holds;
   const causes = [...why, ...hasList && found.unlisted ? [NOT_CLAIMED] : [], ...!hasList && isAlone && object.certain.count ? [NO_LINES] : []];
@@ -124,8 +123,7 @@ function lightsOf(told, isAlone, finished, list) {
 function steps({ object: { kind, found, open, captured: ifHidden, deaf }, counts: { listed }, quiet }, isAlone) {
   if (kind === KIND.COMPLETE) return !isAlone ? [] : !listed ? STEPS.empty : ifHidden?.holds === false ? STEPS.oneMore : deaf?.holds ? STEPS.nothing : STEPS.hears;
   if (!open.count && !listed) return [...ifHidden?.settled === false ? [ONE_ROUND, STAYS] : [], ...isAlone ? [COMPARE] : []];
-  const isMore = found.unlisted > 0 && listed > 0, differs = found.absent > 0 || isMore;
-  const titles = (differs || found.doubtful) && isAlone ? [COMPARE] : [];
+  const isMore = found.unlisted > 0 && listed > 0, differs = found.absent > 0 || isMore, titles = (differs || found.doubtful) && isAlone ? [COMPARE] : [];
   const first = kind === KIND.DOUBTFUL ? [CYCLE, LOOK] : open.count ? [quiet === open.count ? CYCLE : AGAIN] : [];
   if (!differs) return [...first, STAYS, ...titles];
   const lookFor = found.absent === 1 ? `Look on this shelf for the item below. If it ${IS_BROKEN}`
@@ -158,8 +156,7 @@ function headline(told, isAlone) {
   const ofListed = here === listed ? all[0].toLowerCase() + all.slice(1) : `${here.toLocaleString("en")} of ${count(listed, "listed tag")} ` +
     `${here === 1 || listed === 1 ? "is" : "are"} ${open.count ? "proved to be here" : "here"}`;
   const kinds = /** @type {("absent" | "unlisted" | "doubtful")[]} */ (only ? ["absent", "unlisted"] : ["absent", "unlisted", "doubtful"]);
-  const parts = [...kinds.filter((it) => found[it]).map((it) => numbered(ANSWERS[it], found[it])), ...only ? [others] : []];
-  const differs = found.absent || found.unlisted || found.doubtful;
+  const parts = [...kinds.filter((it) => found[it]).map((it) => numbered(ANSWERS[it], found[it])), ...only ? [others] : []], differs = found.absent || found.unlisted || found.doubtful;
   return `${left}${differs ? `${listing(parts)}; ${ofListed}` : `${ofListed}; ${others}`}.`;
 }
 

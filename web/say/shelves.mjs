@@ -51,8 +51,7 @@ export class Shelves {
 
   /** @param {number[]} logs named so that they differ: those of one place by their files */
   apart(logs) {
-    const names = logs.map((at) => this.name(at));
-    const isMany = (/** @type {number} */ at) => this.isPlaced(at) && (this.counted.get(this.logs[at].place)?.length ?? 0) > 1;
+    const names = logs.map((at) => this.name(at)), isMany = (/** @type {number} */ at) => this.isPlaced(at) && (this.counted.get(this.logs[at].place)?.length ?? 0) > 1;
     return names.map((name, at) => names.indexOf(name) !== names.lastIndexOf(name) || isMany(logs[at]) ? printable(this.logs[logs[at]].name) : name);
   }
 

@@ -36,8 +36,8 @@ MOST_TEXT, MOST_NAMES = 4_000_000, 20
 
 #: Names of files, each with its text; two may have one name.
 Files = Sequence[tuple[str, bytes]]
-#: Names of logs, each with the UIDs that are on its own list and that it rules out.
-Denied = Mapping[str, list[str]]
+#: Of a log that is drawn the UIDs that are on its own list and that it rules out, and its sum.
+Denied = tuple[list[str], str]
 
 
 def collection(arguments: Arguments) -> int:
@@ -69,9 +69,9 @@ def collection(arguments: Arguments) -> int:
     return NOT_COMPLETE if less else written.status
 
 
-def _read(names: Sequence[str], jobs: int, is_drawn: bool) -> tuple[Files, Denied]:
-    """The texts of files, of logs their surveys; and what each log rules out of its own list,
-    if a page is drawn. The library's calls run side by side."""
+def _read(names: Sequence[str], jobs: int, is_drawn: bool) -> tuple[Files, Mapping[str, Denied]]:
+    """The texts of files, of logs their surveys; and what each log rules out of its own list, by
+    its name, if a page is drawn. The library's calls run side by side."""
     with ThreadPoolExecutor(jobs) as pool:
         each = partial(_file, is_drawn)
         files = list(pool.map(each, names) if jobs > 1 else map(each, names))
@@ -79,7 +79,7 @@ def _read(names: Sequence[str], jobs: int, is_drawn: bool) -> tuple[Files, Denie
     return [file for file, _ in files], denied
 
 
-def _file(is_drawn: bool, name: str) -> tuple[tuple[str, bytes], Optional[list[str]]]:
+def _file(is_drawn: bool, name: str) -> tuple[tuple[str, bytes], Optional[Denied]]:
     """A file with its text, of a log its survey; and what a log rules out of its own list."""
     try:
         text = read(name)
@@ -87,7 +87,7 @@ def _file(is_drawn: bool, name: str) -> tuple[tuple[str, bytes], Optional[list[s
             return (name, text), None
         findings = object_of(text)["findings"] if is_drawn else []
         denied = [finding["uid"] for finding in findings if finding["kind"] == "absent"]
-        return (name, _written("survey", [(name, text)]).text), denied
+        return (name, _written("survey", [(name, text)]).text), (denied, sha256(text).hexdigest())
     except MemoryError:
         raise NoAnswer(f"out of memory: {shown(name)}") from None
 
@@ -115,22 +115,21 @@ def _less(answer: Object, wanted: int) -> str:
     return too_small(least, wanted, where)
 
 
-def _page(files: Files, logs: Denied, found: Object) -> Iterator[str]:
+def _page(files: Files, logs: Mapping[str, Denied], found: Object) -> Iterator[str]:
     """One HTML file that draws the object, with when each log's file was changed, and the texts of
     logs, those first that have to be counted again. Some of the files are logs."""
-    surveys, room = dict(files), MOST_TEXT
+    room = MOST_TEXT
     # of a log in a text of surveys the oldest of these texts may be the one that has it
     ages = [age for name, text in files if text.startswith(SURVEYS) and name not in logs
             for age in _changed(name)]
     for log in sorted(found["logs"], key=lambda it: it["field"] == "possible" and not it["open"]):
-        name, text = log["name"], b""
-        if name in logs and os.path.isfile(name):
+        name, text, (denied, digest) = log["name"], b"", logs.get(log["name"], ([], ""))
+        if digest and os.path.isfile(name):
             text = read_log(name)
-            if _written("survey", [(name, text)]).text != surveys[name]:
+            if sha256(text).hexdigest() != digest:
                 raise NoAnswer(f"{shown(name)} has changed since it was read first")
-            log["sha256"] = sha256(text).hexdigest()
-        log.update([("changed", age) for age in (
-            _changed(name) if name in logs else sorted(ages)[:1])], denied=logs.get(name, []))
+        log.update([("changed", age) for age in (_changed(name) if digest else sorted(ages)[:1])],
+                   denied=denied, **({"sha256": digest} if digest else {}))
         room -= len(text)
         if text and room >= 0:
             log["object"] = page_object(shown(os.path.basename(name)), JudgedLog(text))
