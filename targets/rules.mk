@@ -9,11 +9,9 @@ clang := $(kit)/toolchain/bin/clang
 # as the kit calls clang
 common := -ffunction-sections -fdata-sections -mllvm -trap-unreachable --no-default-config \
     -no-canonical-prefixes -fintegrated-cc1 -fno-crash-diagnostics -Werror
-# but for what it leaves out of loops in code for x86-64 alone, and with vectors
-for_wasm64 := --target=wasm64-unknown-unknown -mcpu=lime1 -msimd128 -mllvm -expand-div-rem-bits=64 \
+# but for what it says of code for x86-64 alone: here constants are taken out of loops
+for_wasm64 := --target=wasm64-unknown-unknown -mcpu=lime1 -mllvm -expand-div-rem-bits=64 \
     -mllvm -expand-fp-convert-bits=64 $(common)
-features := --enable-bulk-memory --enable-sign-ext --enable-nontrapping-float-to-int \
-    --enable-mutable-globals --enable-simd
 # but for -fPIC, which each object for Windows is
 for_windows := --target=x86_64-w64-windows-gnu -march=x86-64 -mllvm -no-trap-after-noreturn \
     -mllvm -no-x86-call-frame-opt -mllvm -disable-machine-licm -mllvm -disable-postra-machine-licm \
@@ -32,18 +30,16 @@ $(objects)/wasm64.o $(objects)/windows.o: $(objects)/%.o: $(module) targets/reta
 	targets/retarget $* $< $(@:.o=.ll)
 	$(clang) $(for_$*) -c -x ir -O3 $(@:.o=.ll) -o $@
 
-# wasm-opt turns the addresses of its memory into 32 bits, for engines without memory64; but some of
-# those of vectors it forgets.
-$(wasm): $(objects)/wasm64.o $(heap) targets/wasm/addresses
+# wasm-opt turns the addresses of its memory into 32 bits, for engines without memory64.
+$(wasm): $(objects)/wasm64.o $(heap)
 	@mkdir -p $(@D)
 	$(clang) $(for_wasm64) -c -O2 -std=c11 -ffreestanding -nostdinc -Wall -Wextra $(heap) -o $@.o
 	rm -f $@.a
 	$(kit)/toolchain/bin/llvm-ar rcsD --format=gnu $@.a $< $@.o
 	$(kit)/bin/rattle-link --target wasm64-unknown-unknown --toolchain $(kit)/toolchain -o $@.64 $@.a
-	wasm-opt --enable-memory64 $(features) --memory64-lowering --strip-debug --strip-producers \
-	    --no-validation -S $@.64 -o $@.wat
-	targets/wasm/addresses $@.wat
-	wasm-opt $(features) -O2 $@.wat -o $@
+	wasm-opt --enable-memory64 --enable-bulk-memory --enable-sign-ext \
+	    --enable-nontrapping-float-to-int --enable-mutable-globals --memory64-lowering -O2 \
+	    --strip-debug --strip-producers $@.64 -o $@
 
 out/web/vicinity.html: $(wasm) $(wildcard web/* web/*/*) examples/unfinished-count.log
 	web/build $@ $<

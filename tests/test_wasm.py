@@ -62,15 +62,6 @@ const said = () => {
 said();
 said();
 """
-# Instructions with addresses of 64 bits, which stand in angles, and with one of 32.
-VECTORS = """(module (memory 1) (func (param $a i64) (param $v v128)
- (v128.store64_lane offset=616 0
-  <(i64.add (local.get $a) (i64.const 1))>
-  (v128.load64_lane align=1 1 <(local.get $a)> (v128.load64_zero <(local.get $a)>)))
- (v128.store8_lane 15 <(local.get $a)> (v128.load8x8_u offset=3 align=1 <(local.get $a)>))
- (drop (v128.load32_splat (i32.wrap_i64 (local.get $a))))
- (v128.store align=2 (i32.wrap_i64 (local.get $a)) (local.get $v))))
-"""
 UID_A, UID_B = 0xE0040100000000A1, 0xE0040100000000B2
 # How many bytes the buffer has of a call that lists something.
 ROOM = 2048
@@ -120,16 +111,6 @@ def test_what_belongs_to_one_system_is_refused(wasm_module, tmp_path, old, new, 
     _, err, status = Program(TOP / "targets/retarget", *words).run()
     assert status == 1 and err.startswith(b"retarget: ") and why in err.decode()
     assert not (tmp_path / "out.ll").exists()
-
-
-def test_addresses_of_vectors_have_32_bits(tmp_path):
-    """Those that wasm-opt forgets, also one within another; others stay as they are."""
-    file, checked = tmp_path / "it.wat", Program("wasm-opt", "--enable-simd", tmp_path / "it.wat")
-    file.write_text(re.sub("[<>]", "", VECTORS))
-    assert checked.run().status == 1
-    told(TOP / "targets/wasm/addresses", file)
-    assert file.read_text() == VECTORS.replace("<", "(i32.wrap_i64 ").replace(">", ")")
-    assert checked.run().status == 0
 
 
 def test_what_is_no_text_is_refused(wasm_module):
