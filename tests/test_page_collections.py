@@ -166,7 +166,8 @@ def compare(page, told):
     if not told["logs"]:
         assert headline.endswith("Now open the logs.") and look(page) == "read"
         return {"waiting"}
-    is_all = re.match("(All|The one|Nothing is expected|Say whether)", headline)
+    is_all = re.match("(All|The one|Nothing is expected|Say whether|.* Together the logs have all)",
+                      headline)
     assert bool(is_all) >= is_complete and (
         not is_all or is_complete or told["answer"].startswith(("no log of", "left over"))
         or " again, as others may be there" in headline)
