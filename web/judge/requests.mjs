@@ -47,7 +47,7 @@ function openRequests(causes, masks, link, isAll) {
   const plain = masks.flatMap((mask) => mask.ask), cut = new Map(causes.filter((it) => it.reading === "unreached" && it.masks.length > 1).map((it) => [it.round, it.asked]));
   const asked = [...cut.values(), ...causes.flatMap(({ reading, round, masks: all }) => reading !== "captured" && !cut.has(round) ? all : [])];
   const isIn = (/** @type {Mask} */ { len, value }) => asked.some((mask) => mask.len <= len && hasUid(mask, value));
-  return isAll && asked.length < plain.length && masks.map(maskOf).every(isIn) ? asked.map((mask) => sixteen(mask, link)) : plain;
+  return isAll && asked.length < plain.length && masks.map(maskOf).every(isIn) ? [...new Set(asked.map((mask) => sixteen(mask, link)))] : plain;
 }
 
 /**
