@@ -166,8 +166,8 @@ def compare(page, told):
     if not told["logs"]:
         assert headline.endswith("Now open the logs.") and look(page) == "read"
         return {"waiting"}
-    is_all = re.search("^(All|The one|Nothing is expected|Say whether)|Together the logs have all ",
-                       headline)
+    is_all = re.match("(All|The one|Nothing is expected|Say whether|.* Together the logs have all)",
+                      headline)
     assert bool(is_all) >= is_complete and (
         not is_all or is_complete or told["answer"].startswith(("no log of", "left over"))
         or " again, as others may be there" in headline)
@@ -1288,10 +1288,15 @@ OLDER_THAN_GONE = {
     "answered of logs alone": (
         ({**NEW_A, **OLD_B}, 1), (OLD_A, 0), "The older one counts",
         ({"books.csv": b"PK\x03\x04"}, 0), "Leave out books.csv", (NEW_A, 1), (OLD_A, 0),
-        ({"books.csv": BOTH}, 0))}
+        ({"books.csv": BOTH}, 0)),
+    "a catalogue that wasn't whole": (({"books.csv": BOTH}, 0), ({**OLD_A, **OLD_B}, 2),
+                                      ({"books.csv.crdownload": b"uid"}, 1), "Back"),
+    "a table of places, of which none is here": (
+        (COMPLETE, 0), ({"places.csv": b"place,log\nA,A\nB,B\nC,C\n"}, 1), "Back")}
 NO_OLDER = {
     "counted again": ((COMPLETE, 0), (NEW_A, 1), ({"A.log": field(UID_A, asks=2)}, 2), (OLD_A, 3)),
     "opened once more": ((COMPLETE, 0), (COMPLETE, 0)),
+    "whole then": ((COMPLETE, 0), ({"books.csv.part": b"uid"}, 1), ({"books.csv": BOTH}, 2)),
     "by another name": (({"books.csv": BOTH, **OLD_B}, 0), ({"shelf.log": field(UID_A)}, 1),
                         "Leave out shelf.log", (OLD_A, 1)),
     "no log at all": ((COMPLETE, 0), ({"photo.jpg": b"\xff\xd8\xff\xe0\x00"}, 1))}
@@ -1309,6 +1314,16 @@ def test_what_is_older_than_a_file_that_is_gone_is_asked_about(page, how):
     assert (look(page) == "yes") == (how in NO_OLDER)
     assert bool(re.match("All 2 expected items are in some log; but .* older than (one|those) "
                          "that w", headline)) == (how in OLDER_THAN_GONE)
+
+
+def test_logs_that_stay_are_asked_about_as_soon_as_a_newer_one_leaves(page):
+    """Here `A (1).log`, which may be an older count, and has all that its own list has."""
+    whole = field(UID_A, listed=[UID_A])
+    drop(page, {"A (1).log": whole, "A.log": field(UID_A, listed=[UID_A, UID_B])},
+         {"A (1).log": NOON + HOUR, "A.log": NOON + 3 * HOUR})
+    page.wait(lambda: page.texts("#logs .sign") == ["\u2713", "!"])
+    drop(page, {"A.log": whole}, {"A.log": NOON})
+    page.wait(lambda: page.texts("#logs .sign") == ["i", "i"])
 
 
 def test_that_both_count_is_said_of_these_files(page):

@@ -10,9 +10,8 @@ import { SENTENCES } from "./say/sentences.mjs";
 /** @typedef {{changed?: number, newer?: number, than?: string, beside?: number}} Age when a file was changed, and the newest one beside which it may
  *   not count; and the sum of what these are known by */
 
-/** How the name of a file ends while it is downloaded, or written. */
-export const UNFINISHED = /\.(crdownload|opdownload|download|part|partial|filepart|tmp)$/i;
-export const NO_LOG = "a log begins with 'vicinity-log'";
+/** How the name of a file ends while it is downloaded, or written; and why a text is no log. */
+export const UNFINISHED = /\.(crdownload|opdownload|download|part|partial|filepart|tmp)$/i, NO_LOG = "a log begins with 'vicinity-log'";
 /** How a log or surveys begin, in whatever coding. */
 const MARK = /v\0?i\0?c\0?i\0?n\0?i\0?t\0?y\0?-/;
 
@@ -112,7 +111,10 @@ export const putAge = (into, file) => put([{ into, file, names: [file.name] }], 
  * @param {(name: string) => string} keyOf
  */
 function put(all, left, keyOf) {
-  const keysOf = (/** @type {Entry} */ file, names = namesIn(file)) => isATable(file) && !strangeness(file) ? [`/${isPlaces(file)}`] : names.map(keyOf);
+  // what couldn't be read is by its name an open table, or else a log
+  const named = new Map(all.flatMap(({ file }) => isATable(file) ? [/** @type {const} */ ([file.name, `/${isPlaces(file)}`])] : []));
+  const keysOf = (/** @type {Entry} */ file, names = namesIn(file)) => isATable(file) && !strangeness(file) ? [`/${isPlaces(file)}`]
+    : names.map((name) => !file.text.length && named.get(name.replace(UNFINISHED, "")) || keyOf(name));
   const open = all.map((it) => ({ ...it, isLog: !isATable(it.file), keys: keysOf(it.file, [...it.names, it.file.was ?? it.names[0]]) }));
   const byKey = grouped(open.flatMap((it) => it.keys.map((key) => ({ key, it }))), ({ key }) => key);
   for (const { into, file: { changed } } of open) Object.assign(into, { changed, beside: undefined });
@@ -122,7 +124,7 @@ function put(all, left, keyOf) {
     const isHere = late.length && open.some((it) => isSame(it.file, file) && (it.file.changed === newer || uncopied(bareOf(it.file.name)) === uncopied(bareOf(file.name))));
     // what has no mark of a log, and no column of a catalogue, is one only by its name
     const isStray = strangeness(file) && !MARK.test(startOf(file)), its = namesIn(file).map(rootOf);
-    const others = () => open.filter(({ isLog, names }) => isStray ? names.some((name) => its.includes(rootOf(name))) : isLog && !isATable(file));
+    const others = () => open.filter(({ isLog, names }) => isStray ? names.some((name) => its.includes(rootOf(name))) : isLog || isATable(file) || !file.text.length);
     // what counted as another is first of that one's name
     const beside = isHere ? [] : late.flatMap((key) => byKey.get(key)?.map(({ it }) => it) ?? (file.was && key !== keyOf(file.name) ? [] : others()));
     for (const { into } of new Set(beside.filter(isOlder))) Object.assign(into, { beside: (into.beside ?? 0) + id }, newer > (into.newer ?? 0) && { newer, than });

@@ -113,7 +113,7 @@ export function gathered(taken, all) {
   if (isLoose) {
     const gone = isClosed ? [] : sameAs(entries, logs), words = note || replacing(gone, logs), away = [...over, ...leftAs(gone)];
     return [...isClosed ? [] : entries.filter((it) => !gone.includes(it)), ...logs.map((log) => ({ ...log, note: words.trimEnd() }))]
-      .map((it) => ({ ...it, left: away }));
+      .map((it) => ({ ...it, ...gone.length ? { told: undefined, said: undefined } : {}, left: away }));
   }
   const others = isJoining && !earlier ? entries : [], [unnamed, strange] = [others.filter(({ made }) => made), others.filter(isStrange)];
   const more = [...left, ...leftAs(unnamed, "left out: what is pasted has no name"), ...leftAs(strange, `left out: ${NO_LOG}`)];
@@ -141,7 +141,7 @@ const wasEach = (left) => [...grouped(left.filter(({ how }) => how), ({ how }) =
  * @param {Entry[]} logs
  */
 function replacing(gone, logs) {
-  const [by] = sameAs(logs, gone), isOlder = gone.length === 1 && (by.changed ?? Infinity) < (gone[0].changed ?? 0);
+  const [by] = sameAs(logs, gone), isOlder = gone.length === 1 && (by?.changed ?? Infinity) < (gone[0].changed ?? 0);
   const called = gone.map(({ name, was = name }) => ({ name: was === name ? name : `${was}, counted as ${name},` }));
   return was(called, `replaced by ${isOlder ? "an older file of" : "what you opened under"} the same name`);
 }
@@ -156,7 +156,9 @@ function replacing(gone, logs) {
  * @param {Entry} [first] what was here
  */
 function joined(here, tables, logs, note, first) {
-  const replaced = sameAs(here.logs, logs), stay = here.logs.filter((log) => !replaced.includes(log));
+  // among the logs is a table that couldn't be read
+  const broken = here.logs.filter((log) => isLacking(log) && tables.some(({ name }) => name === log.name.replace(UNFINISHED, "")));
+  const replaced = [...sameAs(here.logs, logs), ...broken], stay = here.logs.filter((log) => !replaced.includes(log));
   const kept = stay.map((log) => log.was && tables.some(isPlaces) ? { ...log, name: log.was } : log);
   const gone = here.tables.filter((table) => tables.some((other) => isPlaces(other) === isPlaces(table))), [old] = gone.filter(isCatalogue);
   const more = kept.length ? [...logs, ...gone.length ? [] : tables.filter(({ made }) => made)] : [];
@@ -235,10 +237,7 @@ export const withFiles = (object, given) => putAges(Object.assign(object, { both
  * @param {import("./judge/objects.mjs").LogObject} object
  * @param {Entry} entry
  */
-export function withFile(object, entry) {
-  putAge(object, entry);
-  return Object.assign(object, { both: entry.both });
-}
+export const withFile = (object, entry) => Object.assign(object, { both: entry.both }, putAge(object, entry));
 
 /**
  * A collection that is judged, or waits for its catalogue. Without one of its files nothing is said of it, nor beside one that is no text.

@@ -117,7 +117,8 @@ export function interchanged({ logs, items }) {
   return logs.flatMap(({ place, name, certain = 0 }, at) => {
     const home = homes[at], other = home === null ? -1 : logs.findIndex((log, it) => log.place === home && homes[it] === place);
     const one = printable(place ?? ""), where = printable(home ?? ""), isBoth = other >= 0, numbers = isBoth ? [at, other] : [at];
-    if (home === null || isBoth && other < at) return [];
+    // a single tag may as well be one item on a wrong shelf
+    if (home === null || (isBoth ? other < at : certain === 1)) return [];
     const key = `${numbers.map((it) => olderOne(logs[it])).join()} is of ${place}`;
     const swap = /** @type {Button[]} */ (isBoth ? [["Count each as the other", { "data-as": logs[other].name, "data-kept": name }]] : []);
     return [{ isFirst: true, mayNotCount: true, logs: [name], numbers,
