@@ -166,16 +166,16 @@ def lights(page, values):
 
 def sure(page, values, given, look):
     """The look of the answer, and the other lights: how often each other tag was asked, and what
-    may be wrong if replies were hidden, or else the reader was deaf. If it went deaf behind its last
-    answer, its silent slots say nothing; so a list is green only beside what it is worth then."""
+    may be wrong if replies were hidden, or else the reader was deaf. If that went deaf behind its
+    last answer, its silent slots say nothing; so a list is green only beside what it is worth then."""
     page.until(f".banner.{look} h1", "")
     names = "Each other tag was asked", "If replies were hidden", "If the reader went deaf"
     wanted = {name: it for name, it in zip(names, values.split(" / "), strict=True) if it != "-"}
     if wanted.get(names[1]) == "still empty":
         wanted = {name.replace("other ", ""): it for name, it in wanted.items()}
     assert dict(zip(page.texts(".lights dt")[2:], page.texts(".lights dd")[2:])) == wanted
-    is_hidden, is_deaf = (not wanted.get(name, "still").startswith("still") for name in names[1:])
-    is_heard, is_deaf = "RA" in given, is_deaf and not is_hidden
+    is_wrong = [not wanted.get(name, "still").startswith("still") for name in names[1:]]
+    is_heard, is_deaf = "RA" in given, is_wrong == [False, True]
     said = "If the reader had gone deaf after the last answer of a tag, the answer may be wrong"
     assert (said in page.said()) == (is_deaf and is_heard)
     assert ("A reader that is deaf writes the same log:" in page.said()) == (is_deaf > is_heard)
