@@ -3,11 +3,12 @@ light of a log, says more than the object that it is said of (helpers/headlines.
 import base64
 import json
 import random
+import re
 from collections import Counter
 
 from helpers import random_collections
 from helpers.air import Ask, Listed, Reply
-from helpers.headlines import collection_says_too_much, log_says_too_much
+from helpers.headlines import collection_says_too_much, each_says_too_much, log_says_too_much
 from helpers.program import TOP, Program
 from helpers.random_logs import contradicted, eight_uids, log_text, random_log
 
@@ -52,10 +53,11 @@ def collection_of(rng):
             return [(name, case.files[name]) for name in dict.fromkeys(case.words)]
 
 
-def said_of(module, cases):
-    """What the page says of logs and collections, each a list of names and texts."""
-    given = "\n".join(json.dumps([(name, base64.b64encode(text).decode()) for name, text in files])
-                      for files in cases)
+def said_of(module, cases, is_each=False):
+    """What the page says of logs and collections, each a list of names and texts, or of several
+    logs without a catalogue."""
+    coded = [[(name, base64.b64encode(text).decode()) for name, text in files] for files in cases]
+    given = "\n".join(json.dumps({"each": files} if is_each else files) for files in coded)
     node = Program("node", TOP / "tests/wasm/headlines.mjs", module)
     return map(json.loads, node.told(given=given.encode()).splitlines())
 
@@ -72,6 +74,21 @@ def test_no_headline_of_a_log_says_more_than_its_object(wasm_module, logs):
         seen[said["look"]] += 1
     assert seen.keys() >= {"complete", "absent", "unlisted", "unsettled", "doubtful", "impossible",
                            "yes", "read", "no"}
+
+
+def test_no_headline_of_several_logs_says_more_than_their_objects(wasm_module, logs):
+    """It counts as complete only those of which nothing is left open, as green is."""
+    number, seed = logs
+    rng, seen = random.Random(f"{seed} each"), Counter()
+    cases = [[log_of(rng) for _ in range(rng.randint(2, 4))] for _ in range(number // 2)]
+    given = [[(str(at), text) for at, (text, _) in enumerate(case)] for case in cases]
+    for case, said in zip(cases, said_of(wasm_module, given, True), strict=True):
+        why = each_says_too_much(said, [count for _, count in case])
+        assert not why, f"{said['headline']!r}: {why}\n{[text.decode() for text, _ in case]}"
+        complete = sum(it["kind"] == "complete" for it in said["objects"])
+        seen[f"{complete} complete", re.sub("^.*open", "", said["headline"])] += 1
+    # also some that are complete, and of which others may be there
+    assert {("2 complete", ": 1 of 3."), ("1 complete", ": 0 of 2.")} <= seen.keys()
 
 
 def test_no_headline_of_a_collection_says_more_than_its_object(wasm_module, logs):

@@ -81,6 +81,8 @@ Worker.prototype.postMessage = function (it) {
 """}
 # The rows of tables of items: shelves, of which one alone stands at the head, and items.
 ROWS = ".items :is(thead tr + tr, tbody tr)"
+#: What is said of logs that are green.
+WHOLE = "Proved complete, with nothing left open"
 #: What is said of a reader that may have gone deaf.
 IF_HEARD = "The one listed tag is here, and no other, if the reader heard to the end."
 MOVED = "1 item in the wrong place ({}, on Returns, belongs to A); nothing answered in A."
@@ -164,15 +166,16 @@ def lights(page, values):
 
 def sure(page, values, given, look):
     """The look of the answer, and the other lights: how often each other tag was asked, and what
-    may be wrong if replies were hidden, or the reader was deaf. If it went deaf behind its last
-    answer, its silent slots say nothing; so a list is green only beside what it is worth then."""
+    may be wrong if replies were hidden, or else the reader was deaf. If that went deaf behind its
+    last answer, its silent slots say nothing; so a list is green only beside what it is worth then."""
     page.until(f".banner.{look} h1", "")
     names = "Each other tag was asked", "If replies were hidden", "If the reader went deaf"
     wanted = {name: it for name, it in zip(names, values.split(" / "), strict=True) if it != "-"}
     if wanted.get(names[1]) == "still empty":
         wanted = {name.replace("other ", ""): it for name, it in wanted.items()}
     assert dict(zip(page.texts(".lights dt")[2:], page.texts(".lights dd")[2:])) == wanted
-    is_heard, is_deaf = "RA" in given, not wanted.get(names[2], "still").startswith("still")
+    is_wrong = [not wanted.get(name, "still").startswith("still") for name in names[1:]]
+    is_heard, is_deaf = "RA" in given, is_wrong == [False, True]
     said = "If the reader had gone deaf after the last answer of a tag, the answer may be wrong"
     assert (said in page.said()) == (is_deaf and is_heard)
     assert ("A reader that is deaf writes the same log:" in page.said()) == (is_deaf > is_heard)
@@ -341,7 +344,7 @@ def test_the_first_screen_says_what_it_is_for(page):
     """Also once all is closed: what this is, what to do, and what comes of it."""
     for _ in range(2):
         assert page.texts(".start h2") == ["What this is", "What to do", "What you get"]
-        assert len(page.texts(".answers li")) == 4
+        assert len(page.texts(".answers li")) == 5
         assert page.texts("#beside h2") == ["Or paste a log here"]
         page.is_readable()
         page.drop(**{"A.log": b""})
@@ -371,7 +374,10 @@ def test_each_sheet_names_the_file(page):
     assert page.driver.title.startswith("shelf 1.log: This count") and ' …"' in rules[-1]
     when = r"Printed on \d+ \w+ \d{4} at \d\d:\d\d"
     assert re.search(rf'@bottom-left {{ content: "{when}"', rules[-1])
+    # that isn't said twice, but by browsers that write nothing there
     page.media("print")
+    assert page.run("return document.querySelector('.printed').innerText") == ""
+    page.run("delete window.CSSMarginRule; window.dispatchEvent(new Event('beforeprint'))")
     assert re.fullmatch(when, page.texts(".printed")[0])
 
 
@@ -584,7 +590,7 @@ def test_two_that_were_silenced_before_are_told_in_one_mask(page, vicinity):
     page.until("h1", "Not finished: 2 tags may be here or not, since they were silenced before "
                "they were heard.")
     assert page.texts(".why") == [
-        "The cause: Lines 2 and 3 silenced 2 tags before they were heard: replies before aren't in "
+        "Lines 2 and 3 silenced 2 tags before they were heard: replies before aren't in "
         "the log, or the reader had the UIDs from an earlier count."]
     assert "by no request" not in page.said()
 
@@ -745,7 +751,8 @@ def test_several_logs(page):
     page.until("#logs", "The one listed tag is here")
     page.until("#logs", "No tag answered")
     page.until("#logs", "can't be used")
-    said = "3 logs, each with its own answer. Complete: 1 of 3."
+    # no tag was heard after the last silence, so the first isn't green
+    said = "3 logs, each with its own answer. Proved complete, with nothing left open: 0 of 3."
     page.until("h1", said)
     assert (page.texts("h1"), page.driver.title) == ([said], said)
     assert (page.texts(".banner"), page.said()) == ([], "")
@@ -766,16 +773,27 @@ def test_of_logs_without_a_list_it_is_not_said_that_none_is_complete(page):
 
 
 def test_several_logs_on_paper_are_a_record(page):
-    """With the answer to each, its sum, and a line to sign; when it was printed stands there."""
-    one, two = log_of("I1 RA UA"), log_of("I1 S UA")
+    """With the answer to each, its date and sum, and a line to sign."""
+    one, two = log_of("V3 I1 RA QA I1 S F MA RA UA"), log_of("I1 S UA")
     page.drop(one=one, two=two)
-    page.until("h1", "2 logs, each with its own answer. Complete: 1 of 2.")
+    page.until("h1", f"2 logs, each with its own answer. {WHOLE}: 1 of 2.")
     page.media("print")
     page.run("window.dispatchEvent(new Event('beforeprint'))")
-    for words in (f"one: complete 1 · SHA-256 {sha256(one).hexdigest()}",
-                  f"two: absent E0040100000000A1 · SHA-256 {sha256(two).hexdigest()}",
-                  "(2 files, by vicinity ", "Counted on", "Printed on "):
-        assert words in page.said()
+    when = r"of \d+ \w+ \d{4}, \d\d:\d\d"
+    for words in (f"one: complete 1 · {when} · SHA-256 {sha256(one).hexdigest()}",
+                  f"two: absent E0040100000000A1 · {when} · SHA-256 {sha256(two).hexdigest()}",
+                  r"nothing left open: 1 of 2\. \(2 files, by vicinity ", "Counted on"):
+        assert re.search(words, page.said())
+
+
+@pytest.mark.parametrize(("files", "number"), [
+    # others may be hidden; no tag answered; the reader may have gone deaf
+    (("I1 RA UA", "I1 S", "I1 RA QA I1 S UA"), "0 of 3"),
+    (("I1 RA UA", "V3 I1 RA QA I1 S F MA RA UA"), "1 of 2")])
+def test_of_several_logs_those_are_counted_that_are_green(page, files, number):
+    page.drop(**{f"{at}.log": log_of(words) for at, words in enumerate(files)})
+    page.until("h1", f"{WHOLE}: {number}.")
+    assert len(page.texts("#logs .sign.yes")) == int(number[0])
 
 
 def test_the_title_and_who_does_not_see_it_get_the_headline(page):
@@ -790,7 +808,7 @@ def test_the_title_and_who_does_not_see_it_get_the_headline(page):
         page.until("h1", words)
         is_same()
     page.drop(one=log_of("I1 S"), two=log_of("I1 S UA"))
-    page.until("h1", "Complete: 1 of 3.")
+    page.until("h1", f"{WHOLE}: 0 of 3.")
     is_same()
     page.drop(**{"books.csv": OF_A})
     page.until("h1", "item")
@@ -806,7 +824,7 @@ def test_the_title_and_who_does_not_see_it_get_the_headline(page):
 
 def test_what_is_no_log_is_not_counted_as_one(page):
     page.drop(one=log_of("I1 RA UA"), two=log_of("I1 S UA"), uids=b"E0040100000000A1\n")
-    page.until("h1", "2 logs, each with its own answer. Complete: 1 of 2. 1 file isn't a log.")
+    page.until("h1", f"2 logs, each with its own answer. {WHOLE}: 0 of 2. 1 file isn't a log.")
     page.press("#close")
     page.drop(uids=b"E0040100000000A1\n", prose=b"Dear reader\n")
     page.until("h1", "0 logs. 2 files aren't logs.")
@@ -917,8 +935,8 @@ def test_items_that_are_not_on_their_shelves(page):
     page.drop(**{"catalogue": b"uid,title,place\nE0040100000000A1,Walden,one\n"
                  b"E0040100000000B2,Emma,one\nE0040100000000C3,Kim,two\n",
                  "one.log": log_of("I1 RA QA I1 S"), "two.log": log_of("I1 RA I1 S")})
-    page.until("h1", "1 item not heard on its shelf (Emma, of one) and 1 not known yet; count two "
-               "again.")
+    page.until("h1", "1 item not heard on its shelf (Emma, of one) and 1 not known yet; the log "
+               "of two can't be used: count again.")
     assert page.texts(".logs summary")[0] == (
         "two: nothing is known of its field, since its log contradicts itself (line 5)")
     assert "send it and this page to whoever maintains the reader." in page.said()
@@ -930,13 +948,11 @@ def test_items_that_are_not_on_their_shelves(page):
     page.until("details p", "The logs of their shelves rule these out. Count again first")
 
 
-@pytest.mark.parametrize(("log", "left"), [
-    ("I16 S8", "UIDs ending in 8, 9, A, and 5\u00a0more masks"),
-    ("I16 S", "UIDs ending in an odd digit, in 2, 6, A or E, in 4 or C and in 8")])
-def test_what_is_left_to_ask_in_a_field(page, log, left):
-    page.drop(**{"catalogue": b"uid\nE0040100000000C8\n", "one.log": log_of(log)})
+def test_a_log_that_is_not_finished(page):
+    """What is left to ask in its field stands where it is opened."""
+    page.drop(**{"catalogue": b"uid\nE0040100000000C8\n", "one.log": log_of("I16 S8")})
     page.until("h1", "1 item not known yet; count 1 log again.")
-    assert page.texts(".logs summary") == [f"one.log: 0 tags; left to ask: {left}"]
+    assert page.texts(".logs summary") == ["one.log: 0 tags; not finished"]
 
 
 def test_rows_without_a_tag(page):

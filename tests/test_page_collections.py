@@ -206,10 +206,10 @@ def test_a_collection_that_is_complete(page):
         "yes", ["All 2 expected items are here, and no others."])
     assert page.texts(".lights dd") == ["2 of 2 logs", "2 of 2 items", "once or more",
                                         "still complete", "still complete"]
-    assert page.texts(".holds p")[1].startswith(
+    assert page.texts("#told > details:last-of-type li")[0].startswith(
         "To go unnoticed, a tag would have had to be missed in 1 slot in the field of A")
     # fewer than one are none
-    assert page.texts(".holds p")[2].endswith("hid a weaker one, the answer still holds.")
+    assert page.texts(".holds p")[1].endswith("hid a weaker one, the answer still holds.")
     assert not page.texts(".doubts")
     page.is_readable()
 
@@ -625,7 +625,7 @@ def test_the_example(page):
         "1 item missing (Walden, of A), 1 in the wrong place (The Time Machine, on A, belongs to "
         "B) and 1 not known yet; count C again."]
     assert page.texts(".logs summary")[0] == (
-        "C (shelf-c.log): 3 tags; left to ask: UIDs ending in E or F")
+        "C (shelf-c.log): 3 tags; not finished")
     # replies may be hidden only in the log that is to be counted again
     assert page.texts(".lights dt")[2:] == ["If the reader went deaf"]
     assert page.texts(".lights dd") == ["2 of 3 logs", "9 of 12 items", "the answer may be wrong"]
@@ -852,12 +852,12 @@ def test_one_goes_back_after_a_paste(page):
 @pytest.mark.parametrize(("name", "text", "words", "cure"), [
     ("books.csv", BOTH.replace(b",B\n", b"\n"), "books.csv, line 3: the row has more or fewer",
      "Line 3 is: E0040100000000B2,Walden"),
-    ("books.csv", BOTH.replace(b"E00401", b"E004", 1), "books.csv, line 2: the cell uid has no UID",
-     "Store the column as text"),
+    ("books.csv", BOTH.replace(b"E00401", b"E004", 1),
+     "books.csv, line 2: the cell 'uid' has no UID", "Store the column as text"),
     ("books.csv", BOTH.replace(b"E0040100000000A1", b"A1000000000104E0"),
      "books.csv, line 2: the bytes of the UID are in the opposite order", "A1000000000104E0 is E0"),
-    ("books.csv", b"Tag ID;title\n", "books.csv, line 1: these aren't the columns of a catalogue",
-     "Line 1 is: Tag ID;title"),
+    ("books.csv", b"Tag ID;title\n",
+     "books.csv, line 1: it needs one column 'uid' (a table of places", "Line 1 is: Tag ID;title"),
     ("books.xlsx", b"PK\x03\x04", "books.xlsx is a spreadsheet", "save it as CSV."),
     ("books.xls", b"\xD0\xCF\x11\xE0\xA1\xB1\x1A\xE1", "books.xls is a spreadsheet", "as CSV"),
     ("books.csv", b"%PDF-1.7\n", "books.csv, line 1: this is no table, but a PDF",
@@ -873,7 +873,7 @@ def test_what_is_no_catalogue(page, name, text, words, cure):
 
 def test_two_catalogues_are_one_too_many(page):
     drop(page, {**COMPLETE, "more.csv": BOTH})
-    assert "the tables are books.csv, more.csv" in page.texts(".error")[0]
+    assert page.texts(".error") == ["books.csv and more.csv are both catalogues: leave one out."]
     assert "Open one catalogue (a table with a column uid)" in page.said()
 
 

@@ -379,7 +379,7 @@ def test_page_of_a_collection(reconciled):
         "missing: look for it\nWalden\nE00401502B91C435",
         "take to B\nThe Time Machine\nE00401504477EB73"]
     assert page.texts(".logs summary")[0] == (
-        "C (shelf-c.log): 3 tags; left to ask: UIDs ending in E or F")
+        "C (shelf-c.log): 3 tags; not finished")
 
 
 def test_page_of_a_collection_with_an_older_log(reconciled, tmp_path):
@@ -411,7 +411,7 @@ def test_page_of_a_collection_that_is_not_sure_enough(run, browser, tmp_path):
         assert (done.returncode, bool(page.texts(".banner.read"))) == (status, status == 0)
         where = ("in the field of shelf-a.log; that is enough for UIDs ending in an even digit, "
                  "for example.")
-        assert f"To go unnoticed, {missed} {where}" in page.texts(".holds p")
+        assert f"To go unnoticed, {missed} {where}" in page.texts("details li")
         ask_more = "Count again, with readers that ask all once more at the end."
         assert (ask_more in page.texts(".steps")) == (status == 1)
         page.is_readable()

@@ -3,12 +3,11 @@ import { collectionView } from "./draw/collection.mjs";
 import { at, button, el } from "./draw/elements.mjs";
 import { banner, notes, signed, view } from "./draw/view.mjs";
 import { isStrange, kindOf } from "./judge/files.mjs";
-import { KIND } from "./judge/objects.mjs";
 import { isLacking, isUnanswered } from "./opened.mjs";
 import { leaveOut } from "./say/copies.mjs";
 import { isForeign } from "./say/refused.mjs";
-import { say } from "./say/say.mjs";
-import { count, printable, titled } from "./say/words.mjs";
+import { headlineOfEach, say } from "./say/say.mjs";
+import { count, dated, printable, titled } from "./say/words.mjs";
 
 /** @typedef {import("./opened.mjs").Entry} Entry */
 
@@ -88,7 +87,7 @@ function leavingOut({ tables, logs }, files) {
 }
 
 /**
- * Shows several logs with what each says. Of all together nothing is said but how many are complete, once all are judged, if any has a list.
+ * Shows several logs with what each says. Of all together nothing is said but how many are green, once all are judged, if any has a list.
  * @param {Entry[]} entries
  * @param {number} current which is shown, less than 0 if none is
  */
@@ -99,17 +98,14 @@ export function overview(entries, current) {
   each.replaceChildren();
   if (isOne) return;
   list.querySelectorAll("button").forEach((button, index) => label(button, entries[index], index === current));
-  const tolds = entries.flatMap(({ name, told }) => told ? { name, told } : []), foreign = tolds.filter(({ told }) => isForeign(told)).length;
-  const whole = entries.filter(({ told, said }) => told?.object.kind === KIND.COMPLETE && !said?.doubts.length).length, logs = many - foreign;
-  const isCounted = !entries.some(isUnanswered) && (whole || tolds.some(({ told }) => told.counts.listed));
-  const how = isCounted ? ` Complete: ${whole.toLocaleString("en")} of ${logs.toLocaleString("en")}.` : "";
-  const others = foreign ? ` ${count(foreign, "file isn't a log", "files aren't logs")}.` : "";
-  const words = `${count(logs, "log")}${logs > 1 ? ", each with its own answer" : ""}.${how}${others}`;
+  const tolds = entries.flatMap(({ name, told, changed }) => told ? { name, told, changed } : []), foreign = tolds.filter(({ told }) => isForeign(told)).length;
+  const isCounted = !entries.some(isUnanswered) && tolds.some(({ told }) => told.counts.listed);
+  const words = headlineOfEach(isCounted ? entries.map(({ said }) => said?.look) : [], many - foreign, foreign);
   const above = current < 0 ? notes([...new Set(entries.flatMap(({ note }) => note ? printable(note) : []))]) : [];
   each.append(...above, el(current < 0 ? "h1" : "p", {}, words), el("p", { class: "hint" }, PRESS));
   if (current >= 0) return;
-  const sums = tolds.map(({ name, told: { object: { answer, sha256 } } }) =>
-    el("p", {}, `${printable(name)}: ${answer} · SHA-256 `, el("code", {}, sha256)));
+  const sums = tolds.map(({ name, changed, told: { object: { answer, sha256 } } }) =>
+    el("p", {}, `${printable(name)}: ${answer}${changed ? ` · of ${dated(changed)}` : ""} · SHA-256 `, el("code", {}, sha256)));
   const version = tolds.length ? `, by vicinity ${tolds[0].told.object.version}` : "", all = [words, ...entries.flatMap(({ said }) => said?.answered ?? [])];
   shown.replaceChildren(el("footer", { class: "record" }, ...sums, ...signed(all, `${count(many, "file")}${version}`)));
   headed(words, !entries.some(isUnanswered));

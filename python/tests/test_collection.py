@@ -210,7 +210,7 @@ class Asked(Command):
         told, said = on_a_terminal("collection", "--csv", catalogue, streams=["stderr"])
         self.assertEqual(said, line)
         self.assertIn(b"has no UID of 16 hex digits that begin with E0", told)
-        self.assertIn(b"Write none where an item has no tag.", told)
+        self.assertIn(b"Write 'none' where an item has no tag.", told)
 
     def test_of_two_faults_that_of_the_first_file_is_told(self):
         catalogue = self.catalogue("uid\nE0040100000000A1\n")

@@ -32,6 +32,11 @@ class Log:
                      HIDDEN: self.is_hiding and not self.is_open and self.certain and (
                          self.is_complete or not listed)}
 
+    def is_whole(self):
+        """Whether nothing is left open of its list, not even if replies were hidden or the reader
+        went deaf."""
+        return self.is_complete and self.listed and not self.is_hiding and not self.is_deaf
+
     def may_say(self):
         """Each claim, and whether it holds for the number in it."""
         found, certain = self.found, self.certain
@@ -87,6 +92,20 @@ def log_says_too_much(said, listed):
     return f"it lacks {lacking}" if lacking else light_says_too_much(said, log)
 
 
+EACH = re.compile(rf"{NUMBER} logs, each with its own answer\."
+                  rf"(?: Proved complete, with nothing left open: {NUMBER} of {NUMBER}\.)?")
+
+
+def each_says_too_much(said, listed):
+    """Why, if so, of several logs without a catalogue, that list so many UIDs each."""
+    told, found = said["objects"], EACH.fullmatch(said["headline"])
+    whole = sum(it["status"] == 0 and Log(it, number).is_whole()
+                for it, number in zip(told, listed, strict=True))
+    numbers = [number_in(it) for it in found.groups() if it] if found else []
+    wanted = [len(told), *([whole, len(told)] if any(listed) else [])]
+    return None if numbers == wanted else f"{numbers}, and not {wanted}"
+
+
 def light_says_too_much(said, log):
     """Why the look of the answer or a light does, if so."""
     told, lights = said["object"], said["lights"]
@@ -98,8 +117,7 @@ def light_says_too_much(said, log):
         wrong.append("finished")
     if lights.get("The reader's list") == "matches" and not (log.is_complete and not log.is_hiding):
         wrong.append("matches")
-    if said["look"] == "yes" and not (log.is_complete and told["count"] and not log.is_hiding
-                                      and not log.is_deaf):
+    if said["look"] == "yes" and not log.is_whole():
         wrong.append("green")
     return f"lights: {wrong}" if wrong else None
 
@@ -112,8 +130,8 @@ KINDS = {"missing": "missing", "may be missing": "missing",
          "heard in a log of no place": "misplaced", "heard in logs of no place": "misplaced",
          "not in the catalogue": "unexpected", "back that should be away": "returned",
          "not counted": "not counted", "without a tag": "no tag"}
-ALL_HERE = re.compile(rf"^All {NUMBER} expected items are (?:here|in some log)"
-                      r"|^The one expected item is (?:here|in some log)"
+ALL_HERE = re.compile(rf"^All {NUMBER} (?:expected|tagged) items are (?:here|in some log)"
+                      r"|^The one (?:expected|tagged) item is (?:here|in some log)"
                       r"|^Nothing is expected here, and no tag answered"
                       rf"|\bTogether the logs have all {NUMBER} expected items\."
                       r"|\bTogether the logs have the one expected item\.")
@@ -168,6 +186,8 @@ def collection_says_too_much(said):
         number = number_in(said_number) if said_number else "one" in is_all[0]
         if number != here or wanted.keys() - {"no tag"}:
             return is_all[0]
+        if " item" in is_all[0] and ("tagged" in is_all[0]) != bool(counts["no tag"]):
+            return "whether all items have tags"
         if "no other" in headline and (not is_complete or any(log["hidden"] for log in logs)):
             return "no others"
         if "no other" in headline and not names_those(headline, DEAF, told, "deaf"):

@@ -1,12 +1,11 @@
 /** Draws a collection: what isn't sure of its logs, what to count again, what to do at each shelf, what isn't known yet, and each log. */
-import { maskOf } from "../judge/frames.mjs";
 import { grouped } from "../judge/groups.mjs";
 import { KIND } from "../judge/objects.mjs";
 import { SENTENCES } from "../say/sentences.mjs";
 import { firstOf, inOrder, MOST_LISTED, nameOf } from "../say/shelves.mjs";
 import { conditionsOf, sayAll, summaryOf } from "../say/summary.mjs";
-import { granted, TO_KNOW } from "../say/sure.mjs";
-import { count, dated, endings, listing, printable } from "../say/words.mjs";
+import { granted, missed, TO_KNOW } from "../say/sure.mjs";
+import { count, dated, printable } from "../say/words.mjs";
 import { bullets, drawnLater, el, folded, holds, lowered, oneStop, rest } from "./elements.mjs";
 import { shelved } from "./items.mjs";
 import { Pane } from "./pane.mjs";
@@ -20,9 +19,9 @@ import { banner, doubted, noResult, notes, signed, view } from "./view.mjs";
 /** @typedef {import("./items.mjs").Cell} Cell */
 /** @typedef {(at: number) => null | (() => Promise<Told | undefined>)} Opener what is told of a log, by its number, if it can be had */
 
-/** How many logs are drawn, how many items are seen unfolded, how many stand on paper that are here, how many masks are named, and how
- *  many cells of the catalogue are the name of an item. */
-const MOST_LOGS = 2000, FEW_ITEMS = 200, MOST_PRINTED = 100, MOST_MASKS = 3, MOST_CELLS = 2;
+/** How many logs are drawn, how many items are seen unfolded, how many stand on paper that are here, and how many cells of the
+ *  catalogue are the name of an item. */
+const MOST_LOGS = 2000, FEW_ITEMS = 200, MOST_PRINTED = 100, MOST_CELLS = 2;
 const LOOK_FOR = "If you find one, its tag is covered, broken or not the one in the catalogue, or its reply was lost: move it, and count " +
   "again. If you don't, leave its row in the catalogue. ";
 const NOT_EXPECTED = "What isn't in the catalogue: find it by reading the items one by one, and bring it to where it belongs, or add it. ";
@@ -127,9 +126,9 @@ function logsOf(object, opener, title, words, list, open = false) {
 function oneLog(object, at, opens) {
   const { shelves } = summaryOf(object), log = object.logs[at], name = shelves.name(at), file = nameOf(log.was ?? log.name);
   const sha256 = log.sha256 ?? log.object?.sha256, isSame = [file, file.replace(/\.[^. ]*$/, "")].includes(name);
-  const sum = sha256 ? [el("span", { class: "sum" }, `\u00A0· ${log.changed ? `of ${dated(log.changed)}\u00A0· ` : ""}`,
+  const sum = sha256 ? [el("span", { class: "sum" }, `· ${log.changed ? `of ${dated(log.changed)}\u00A0· ` : ""}`,
     el("code", {}, `SHA-256 ${sha256}`))] : [];
-  const words = [el("b", { title: printable(log.was ?? log.name) }, name), `${isSame ? "" : ` (${file})`}: ${saidOf(log)}`, ...sum];
+  const words = [el("b", { title: printable(log.was ?? log.name) }, name), `${isSame ? "" : ` (${file})`}: ${saidOf(log)} `, ...sum];
   if (!opens) return el("p", { class: "log" }, words);
   const it = /** @type {HTMLDetailsElement} */ (el("details", { class: "log aside" }, el("summary", {}, words)));
   it.addEventListener("toggle", async () => {
@@ -154,20 +153,19 @@ function drawnLog(told, names) {
 }
 
 /**
- * What a log says, and what is left to ask in its field.
+ * What a log says. What is left to ask in its field stands where it is opened.
  * @param {OneLog} log
  */
-function saidOf({ field, certain = 0, open = [], more }) {
+function saidOf({ field, certain = 0, open = [] }) {
   const [kind, , , line] = field.split(" "), where = `line ${parseInt(line)}`;
   if (kind === KIND.IMPOSSIBLE) return `nothing is known of its field, since its log contradicts itself (${where})`;
   if (kind === KIND.REFUSED) return `this log can't be read (${where}), so nothing is known of its field: copy it again, or count again`;
-  const proved = count(certain, "tag"), left = open.length - MOST_MASKS, others = more ? "more masks" : left > 1 ? `${left.toLocaleString("en")}\u00A0more masks` : "";
-  return open.length ? `${proved}; left to ask: ${endings(open.slice(0, others ? MOST_MASKS : MOST_MASKS + 1).map(maskOf), others)}` : proved;
+  return `${count(certain, "tag")}${open.length ? "; not finished" : ""}`;
 }
 
 /** @param {CollectionObject} object */
 function grantedOfAll(object) {
-  const all = [...granted(!object.logs.some(({ hidden }) => hidden)), CARRIED,
+  const { margin } = object, { shelves, isUnsettled } = summaryOf(object), all = [...margin && !isUnsettled ? missed(margin, ` ${shelves.fields([margin.log])}`) : [], ...granted(!object.logs.some(({ hidden }) => hidden)), CARRIED,
     `The catalogue is complete. It has ${count(object.items.length, "row")}: what isn't in it is never missed.`, PROVED];
   return [folded(`What this takes for granted (${all.length})`, !object.status, bullets(all))];
 }

@@ -9,7 +9,7 @@ import { el, forReader, linked, oneStop, toLine } from "./elements.mjs";
 const MOST_SHOWN = 160, MOST_ON_PAPER = 400, ASKED = SENTENCES.requests;
 const SPLIT = "If a slot has a collision, ask its mask in sixteen slots too.", INSERT = `${SPLIT} In the log, the new lines go `;
 /** Tags stay silent only while they have power. */
-const IF_OFF = "If the field has been off since, write F first.", IF_ON = "Do so only if the field has been on since; otherwise begin a new log.";
+const IF_OFF = "If the field has been off since, write F first, and judge the log again then.", IF_ON = "Do so only if the field has been on since; otherwise begin a new log.";
 const ASK_UNDER = "left, to ask again where a reply may have hidden others, when the tags that were read there are silent.";
 
 /**

@@ -26,13 +26,13 @@ export function unfoldOnPaper() {
 }
 
 /**
- * Puts the title at the head of each sheet of paper but the first, and at the foot of each when it was printed. Below what is signed
- * that stands, too, for browsers that write nothing at the edge of a sheet.
+ * Puts the title at the head of each sheet of paper but the first, and at the foot of each when it was printed. In browsers that write
+ * nothing at the edge of a sheet that stands below what is signed.
  * @param {string} printed
  */
 function nameOnPaper(printed) {
   const { title, styleSheets: [sheet] } = document, words = title.length > MOST_TITLE ? `${title.slice(0, MOST_TITLE)} …` : title;
-  for (const it of document.querySelectorAll(".printed")) it.textContent = printed;
+  for (const it of document.querySelectorAll(".printed")) it.textContent = "CSSMarginRule" in window ? "" : printed;
   if (!sheet) return;
   if (sheet.cssRules.length > STYLE) sheet.deleteRule(STYLE);
   const head = `@top-left { content: ${JSON.stringify(words).replace(/\\[nrt]/g, " ")}; ${SMALL} }`;

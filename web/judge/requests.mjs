@@ -1,5 +1,5 @@
 /** What is left to ask, as lines that send it. */
-import { hasUid, linkOf, maskOf, requestOf, sixteen, stayQuietOf, UID_BITS } from "./frames.mjs";
+import { hasUid, inventoryOf, linkOf, maskOf, requestOf, sixteen, stayQuietOf, UID_BITS } from "./frames.mjs";
 
 /** @typedef {import("./frames.mjs").Mask} Mask */
 /** @typedef {import("./causes.mjs").Cause} Cause */
@@ -27,10 +27,10 @@ export const NO_REQUESTS = { open: [], silenced: [], hidden: [], all: [], heard:
  * @returns {Requests}
  */
 export function requestsOf(log, object, { open, quiet, hidden, causes }) {
-  const { captured: ifHidden, status, certain, open: { masks, count } } = object, link = log.link, again = askedAgain(log, causes);
-  const own = masks.filter((_, at) => !quiet.has(open[at]) && !hidden.has(open[at])), isHiding = status < 2 && (ifHidden?.holds === false || ifHidden?.settled === false);
+  const { captured: ifHidden, status, certain, open: { masks, count } } = object, link = log.link, own = masks.filter((_, at) => !quiet.has(open[at]) && !hidden.has(open[at]));
+  const first = openRequests(causes, own, link, open.length === count), again = askedAgain(log, causes, first), isHiding = status < 2 && (ifHidden?.holds === false || ifHidden?.settled === false);
   const all = isHiding || again.length ? allButHeard(log, link) : [];
-  return { open: openRequests(causes, own, link, open.length === count), silenced: masks.flatMap((mask, at) => quiet.has(open[at]) ? mask.ask : []),
+  return { open: first, silenced: masks.flatMap((mask, at) => quiet.has(open[at]) ? mask.ask : []),
     hidden: all.length > 1 && all.length < again.length ? all : again, all: isHiding ? all : [],
     heard: certain.uids.slice(0, 1).map((uid) => `T ${requestOf(1, { len: UID_BITS, value: BigInt.asUintN(UID_BITS, BigInt(`0x${uid}`)) }, link)}`) };
 }
@@ -47,18 +47,23 @@ function openRequests(causes, masks, link, isAll) {
   const plain = masks.flatMap((mask) => mask.ask), cut = new Map(causes.filter((it) => it.reading === "unreached" && it.masks.length > 1).map((it) => [it.round, it.asked]));
   const asked = [...cut.values(), ...causes.flatMap(({ reading, round, masks: all }) => reading !== "captured" && !cut.has(round) ? all : [])];
   const isIn = (/** @type {Mask} */ { len, value }) => asked.some((mask) => mask.len <= len && hasUid(mask, value));
-  return isAll && asked.length < plain.length && masks.map(maskOf).every(isIn) ? asked.map((mask) => sixteen(mask, link)) : plain;
+  return isAll && asked.length < plain.length && masks.map(maskOf).every(isIn) ? [...new Set(asked.map((mask) => sixteen(mask, link)))] : plain;
 }
 
 /**
- * The lines that silence the tags that may have hidden others, and ask these again.
+ * The lines that silence the tags that may have hidden others, and ask these again; not where those are silent, and other lines ask these.
  * @param {Log} log
  * @param {Cause[]} causes
+ * @param {string[]} others
  */
-const askedAgain = (log, causes) => causes.filter(({ reading }) => reading === "captured").flatMap(({ round, uids }) => {
-  const request = log.frame(round).toUpperCase(), link = linkOf(request);
-  return [...uids.map((uid) => `T ${stayQuietOf(uid, link)}`), `T ${request}`];
-});
+function askedAgain(log, causes, others) {
+  const hiding = causes.filter(({ reading }) => reading === "captured"), asked = others.map((it) => inventoryOf(it.slice(2)).mask), ready = hiding.length && asked.length ? log.ready() : new Set();
+  const isAsked = (/** @type {Mask} */ { len, value }) => asked.some((mask) => mask.len <= len && hasUid(mask, value));
+  return hiding.filter(({ masks, uids }) => !masks.every(isAsked) || uids.some((uid) => ready.has(uid))).flatMap(({ round, uids }) => {
+    const request = log.frame(round).toUpperCase(), link = linkOf(request);
+    return [...uids.map((uid) => `T ${stayQuietOf(uid, link)}`), `T ${request}`];
+  });
+}
 
 /**
  * The lines that silence the tags that were heard, unless they are too many, and ask all in one slot.

@@ -63,8 +63,8 @@ export function refused(told) {
  * @param {import("../judge/judge.mjs").Refused} what
  */
 export function noAnswer({ name = "", line = 0, fault = "", quoted = "", files }) {
-  const tables = files.length ? `: the tables are ${files.join(", ")}` : "";
-  if (!name) return { error: `these aren't the files of a collection${tables}`, cure: [ONE_OF_EACH], files };
+  const tables = files.length ? `: the tables are ${files.join(", ")}` : "", both = `${files.join(" and ")} are both catalogues: leave one out`;
+  if (!name) return { error: files.length === 2 ? both : `these aren't the files of a collection${tables}`, cure: [ONE_OF_EACH], files };
   const { wrong, fix } = fault === "Columns" && !TABLE.test(name) ? wrongFile(quoted) : wrongTable(quoted, line, fault);
   if (fault === "SameName") return { error: `${name}: ${wrong}`, cure: [fix], files };
   if (isSpreadsheet(quoted)) return { error: `${name} is a spreadsheet: save it as CSV`, cure: [SENTENCES.files.sheet[3], "If it isn't the catalogue, leave it out."], files };

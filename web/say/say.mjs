@@ -88,14 +88,14 @@ function possible(told, isAlone) {
   const isSure = whole && !isHiding, only = ended && !hasList || whole, differs = found.absent || found.unlisted, why = whyOpen(told);
   // a listed tag that isn't proved may be one of those that answered
   const lacks = told.isMore && !found.doubtful, list = isSure ? "matches" : whole ? "matches what was heard" : differs ? "differs" : lacks ? "incomplete" : "not known yet";
-  // a list is green only if it is complete also if the reader went deaf
-  const isGreen = isSure && isAlone && object.deaf?.holds;
+  // a list is green only if it is complete also if the reader went deaf; of a log of a collection what is green says that with which it is compared
+  const isGreen = isSure && isAlone && object.deaf?.holds, isBare = only && !isAlone && object.certain.count > 0 && !isHiding && !isShaken(told, object.deaf);
   const causes = [...why, ...hasList && found.unlisted ? [NOT_CLAIMED] : [], ...!hasList && isAlone && object.certain.count ? [NO_LINES] : []];
   const finished = /** @type {Shown} */ (!ended ? { value: "no", look: "no" } : isHiding ? { value: "not known yet", look: "plain" }
     : { value: "yes", look: "yes" });
-  return { look: /** @type {Look} */ (isGreen ? "yes" : only ? "read" : "no"), sign: isGreen ? "✓" : only ? "i" : "!",
+  return { look: /** @type {Look} */ (isGreen ? "yes" : isBare ? "plain" : only ? "read" : "no"), sign: isGreen ? "✓" : isBare ? "" : only ? "i" : "!",
     headline: headline(told, isAlone), shelf: steps(told, isAlone), causes,
-    why: why.length ? `${why.length > 1 ? "One of the causes" : "The cause"}: ${why[0]}` : "",
+    why: why[0] ?? "",
     lights: lightsOf(told, isAlone, finished, { value: list, look: isSure ? "yes" : differs || lacks ? "no" : "plain" }) };
 }
 
@@ -158,6 +158,18 @@ function headline(told, isAlone) {
   const kinds = /** @type {("absent" | "unlisted" | "doubtful")[]} */ (only ? ["absent", "unlisted"] : ["absent", "unlisted", "doubtful"]);
   const parts = [...kinds.filter((it) => found[it]).map((it) => numbered(ANSWERS[it], found[it])), ...only ? [others] : []], differs = found.absent || found.unlisted || found.doubtful;
   return `${left}${differs ? `${listing(parts)}; ${ofListed}` : `${ofListed}; ${others}`}.`;
+}
+
+/**
+ * What is said of several logs together: how many there are, and if that is said, how many of them are green.
+ * @param {(Look | undefined)[]} looks of each, if it is said
+ * @param {number} logs
+ * @param {number} foreign how many files aren't logs
+ */
+export function headlineOfEach(looks, logs, foreign) {
+  const green = looks.filter((look) => look === "yes").length, others = foreign ? ` ${count(foreign, "file isn't a log", "files aren't logs")}.` : "";
+  const how = looks.length && logs ? ` Proved complete, with nothing left open: ${green.toLocaleString("en")} of ${logs.toLocaleString("en")}.` : "";
+  return `${count(logs, "log")}${logs > 1 ? ", each with its own answer" : ""}.${how}${others}`;
 }
 
 /**

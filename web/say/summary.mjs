@@ -4,7 +4,7 @@ import { KIND } from "../judge/objects.mjs";
 import { doubtsOf, IS_EMPTY } from "./doubts.mjs";
 import { noOthers } from "./say.mjs";
 import { MOST_NAMES, Shelves } from "./shelves.mjs";
-import { DEAF, deafIn, HOLDS, howSure, mayBeWrong, missed, notSure, stillHolds } from "./sure.mjs";
+import { DEAF, deafIn, HOLDS, howSure, mayBeWrong, notSure, stillHolds } from "./sure.mjs";
 import { count, listing } from "./words.mjs";
 
 /** @typedef {import("../judge/objects.mjs").CollectionObject} CollectionObject */
@@ -70,7 +70,7 @@ export function headlineOf(object) {
   const said = doubts.flatMap(({ short, cure }) => cure === IS_EMPTY && !here ? [] : short), more = said.length - MOST_DOUBTS;
   const without = object.counts["no tag"], untagged = without ? [`${count(without, "item has", "items have")} no tag`] : [];
   const but = [...untagged, ...said.slice(0, MOST_DOUBTS), ...more > 0 ? [`${more} more`] : []];
-  const all = here === 1 ? "The one expected item is" : `All ${count(here, "expected item")} are`;
+  const kind = without ? "tagged item" : "expected item", all = here === 1 ? `The one ${kind} is` : `All ${count(here, kind)} are`;
   if (isUnsettled) return `${all} in some log; but ${listing(but)}.`;
   const others = noOthers(here, hiding.length > 0, deaf.length > 0).replace("may be,", `may be ${shelves.fields(shelves.sorted(hiding))},`)
     .replace("the reader", `the reader${deaf.length > 1 ? "s" : ""} of ${shelves.names(shelves.sorted(deaf))}`);
@@ -93,11 +93,12 @@ function lacking(object) {
     [of("returned"), "back that should be away"], [of("not counted"), "not counted"], [others, "not known yet"], [of("no tag"), "without a tag"]]);
   const said = parts.flatMap(([its, ...words]) => its?.length ? [{ its, words }] : []).map(({ its, words: [what, isNamed] }, at) =>
     `${at ? its.length.toLocaleString("en") : count(its.length, "item")} ${what}${isNamed ? shelves.only(its) : ""}`);
-  const number = again.length <= MOST_NAMES && again.every((at) => shelves.isPlaced(at)) ? shelves.names(again)
-    : again.length < logs.length || again.length === 1 ? count(again.length, "log") : "all logs";
+  const isNamed = again.length <= MOST_NAMES && again.every((at) => shelves.isPlaced(at)), isAll = again.length === logs.length && again.length > 1;
+  const number = isNamed ? shelves.names(again) : isAll ? "all logs" : count(again.length, "log"), those = isNamed ? `the log${again.length > 1 ? "s" : ""} of ${number}` : number;
+  const isBroken = again.every((at) => logs[at].field !== "possible"), call = !isBroken ? `count ${number} again` : `${isAll && !isNamed ? "no log can" : `${those} can't`} be used: count again`;
   const all = said.length || !here ? "" : here === 1 ? "the one expected item" : `all ${count(here, "expected item")}`;
   const first = !all ? listing(said) : isAsked ? "" : `${all} ${here === 1 ? "is" : "are"} ${isUnsettled ? "in some log" : "here"}`;
-  const whatToCount = again.length ? [`count ${number} again${all && first ? ", as others may be there" : ""}`] : [];
+  const whatToCount = again.length ? [`${call}${all && first ? ", as others may be there" : ""}`] : [];
   const text = [first, ...whatToCount, ...doubts.flatMap(({ short, isFirst }) => isFirst ? [short] : [])].filter((it) => it).join("; ");
   return `${text[0].toUpperCase()}${text.slice(1)}.${all && isAsked ? ` Together the logs have ${all}.` : ""}`;
 }
@@ -132,10 +133,10 @@ function lights(object) {
 export function conditionsOf(object) {
   const { shelves, hiding, deaf, isResting, isUnsettled } = summaryOf(object), { counts, margin, logs } = object;
   if (!isResting && !counts.unexpected) return [];
-  // of what is to be counted again nothing else is asked, nor said
-  const answered = shelves.sorted(deaf).filter((at) => logs[at].answers), isSaid = !isUnsettled && !logs.some(({ hidden }) => hidden);
+  // of what is to be counted again, or where all are asked once more, nothing else is asked, nor said
+  const those = shelves.sorted(deaf).filter((at) => !logs[at].hidden), answered = those.filter((at) => logs[at].answers), isSaid = !isUnsettled && !logs.some(({ hidden }) => hidden);
   const also = hiding.length ? `${mayBeWrong(` ${shelves.fields(shelves.sorted(hiding))},`)}.` : isSaid ? stillHolds(margin?.margin) : "";
-  const sure = margin && !isUnsettled ? [HOLDS, ...missed(margin, ` ${shelves.fields([margin.log])}`)] : [];
-  const ifDeaf = answered.length ? deafIn(` ${shelves.fields(answered)}`) : deaf.length ? DEAF : "";
+  const sure = margin && !isUnsettled ? [HOLDS] : [];
+  const ifDeaf = answered.length ? deafIn(` ${shelves.fields(answered)}`) : those.length ? DEAF : "";
   return [...sure, also, ...isResting ? [ifDeaf] : []].filter((it) => it);
 }

@@ -78,8 +78,9 @@ export function howSure(margin, still, other, isHiding, isDeaf) {
  * @param {Told} told
  */
 export function ifDeaf(told) {
-  const { object: { kind, certain, deaf }, requests } = told, isComplete = kind === KIND.COMPLETE;
-  if (!deaf || !isComplete && !isShaken(told, deaf)) return null;
+  const { object: { kind, certain, deaf, captured }, requests } = told, isComplete = kind === KIND.COMPLETE;
+  // what is asked where replies may have been hidden comes first
+  if (!deaf || !isComplete && !isShaken(told, deaf) || isShaken(told, captured) && alsoHolds(told)?.ask.length) return null;
   if (!certain.count) return { words: DEAF, ask: [] };
   return isComplete && deaf.holds ? { words: `${IF_DEAF}still holds: it heard a tag after the last silence.`, ask: [] }
     : { words: deafIn(), ask: requests.heard };

@@ -63,16 +63,6 @@ export function ending(mask) {
 }
 
 /**
- * Which UIDs are in some masks, and in others: UIDs ending in 0, in 2 or A, and 8 more masks.
- * @param {Mask[]} masks
- * @param {string} [others]
- */
-export function endings(masks, others) {
-  const by = masks.some(({ len }) => len % 4) ? "in " : "", all = masks.map(ending).map((it, at) => at ? it.replace("UIDs ending in ", by) : it);
-  return others ? `${all.join(", ")}, and ${others}` : listing(all, by ? "and" : "or");
-}
-
-/**
  * Whom a request asked, by its mask.
  * @param {Mask} mask
  */
