@@ -1291,6 +1291,9 @@ OLDER_THAN_GONE = {
         ({"books.csv": BOTH}, 0)),
     "a catalogue that wasn't whole": (({"books.csv": BOTH}, 0), ({**OLD_A, **OLD_B}, 2),
                                       ({"books.csv.crdownload": b"uid"}, 1), "Back"),
+    "what never had a catalogue": (
+        ({"places.csv": b"place,log\nA,x1.log\nB,x2.log\n", "x1.log": field(),
+          "x2.log": field(UID_B)}, 3), (COMPLETE, 0)),
     "a table of places, of which none is here": (
         (COMPLETE, 0), ({"places.csv": b"place,log\nA,A\nB,B\nC,C\n"}, 1), "Back")}
 NO_OLDER = {

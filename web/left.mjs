@@ -45,11 +45,17 @@ const rootOf = (name) => uncopied(bareOf(name)).replace(/[^\p{L}]+/gu, "").toLow
 const namesIn = (file) => kindOf(file) === "surveys" ? surveyedIn(file) : [file.name, file.was ?? file.name];
 
 /**
+ * Of which places a table of places names logs.
+ * @param {Entry} table
+ */
+const placesIn = ({ text }) => logsNamed(new TextDecoder().decode(text)).map(({ place }) => place);
+
+/**
  * The roots of the names of logs, catalogues and places.
  * @param {Entry[]} files
  * @param {CollectionObject} [object]
  */
-const rootsOf = (files, object) => [...new Set([...files.flatMap((it) => isATable(it) && isPlaces(it) ? [] : namesIn(it)),
+const rootsOf = (files, object) => [...new Set([...files.flatMap((it) => isATable(it) && isPlaces(it) ? placesIn(it) : namesIn(it)),
   ...new Set(object?.items.flatMap(({ place }) => place ?? []))].map(rootOf))];
 
 /**

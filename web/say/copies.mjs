@@ -133,7 +133,7 @@ export function interchanged({ logs, items }) {
  * By what a file is known of which something is said: one with other bytes, or beside a newer one, is asked about anew.
  * @param {Aged} file
  */
-const olderOne = ({ name, changed, beside, sha256, surveys }) => `${name} of ${changed} beside ${beside}: ${sha256 || surveys}`;
+export const olderOne = ({ name, changed, beside, sha256, surveys }) => `${name} of ${changed} beside ${beside}: ${sha256 || surveys}`;
 
 /**
  * Files than which newer ones were here, each by the shelf of its log: those of which it was said that they count, and the others.

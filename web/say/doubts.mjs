@@ -1,7 +1,7 @@
 /** What is to be known of the logs of a collection before its items are: what wasn't counted, and what isn't sure. */
 import { stemOf, unreadOf } from "../judge/files.mjs";
 import { KIND } from "../judge/objects.mjs";
-import { askedOf, copies, interchanged, leaving, ofAPlace, ofOtherDays, older, same, shared } from "./copies.mjs";
+import { askedOf, copies, interchanged, leaving, ofAPlace, ofOtherDays, older, olderOne, same, shared } from "./copies.mjs";
 import { SENTENCES } from "./sentences.mjs";
 import { firstOf, MOST_LISTED, nameOf } from "./shelves.mjs";
 import { count, dated, listing, printable } from "./words.mjs";
@@ -46,7 +46,7 @@ const placesIn = (files) => files.find(({ text }) => text !== undefined);
  */
 function notHere({ logs, files }) {
   const table = placesIn(files), unread = unreadOf(table?.text ?? "", logs), name = printable(table?.file ?? ""), isOne = unread.length === 1;
-  const those = (/** @type {string} */ of) => unread.map(({ place, log }) => printable(`${log} ${of} ${place}`)), key = [table?.sha256, table?.changed, those("of")].join();
+  const those = (/** @type {string} */ of) => unread.map(({ place, log }) => printable(`${log} ${of} ${place}`)), key = [table?.sha256, table?.changed, those("of"), logs.map(olderOne)].join();
   const [they, them, is] = isOne ? ["It isn't", "its row", "isn't"] : ["They aren't", "their rows", "aren't"];
   return !unread.length ? [] : [{ isFirst: true, mayNotCount: true, short: `no log ${firstOf(those("of"))}, as ${name} names`,
     words: `${name} names ${firstOf(those("for"), "and", MOST_LISTED)}, which ${is} here: what may be there isn't counted.`,

@@ -38,13 +38,18 @@ MOST_TEXT, MOST_NAMES = 4_000_000, 20
 Files = Sequence[tuple[str, bytes]]
 #: Of a log that is drawn the UIDs that are on its own list and that it rules out, and its sum.
 Denied = tuple[list[str], str]
+#: When a file was changed, in milliseconds, as a page has it; nothing of what is no file.
+Ages = Mapping[str, list[int]]
 
 
 def collection(arguments: Arguments) -> int:
     """Writes what logs say of a catalogue, and returns the status."""
     library()
     form, wanted = arguments.form, arguments.margin
-    files, logs = _read(names_of(arguments), arguments.jobs, form == "page")
+    names = names_of(arguments)
+    # before they are read: if one is written anew meanwhile, it counts as older than it is
+    ages = {it: [os.stat(it).st_mtime_ns // 1_000_000] for it in names if os.path.isfile(it)}
+    files, logs = _read(names, arguments.jobs, form == "page")
     written, answer = _written(WRITES[form], files), dict[str, Any]()
     is_measured = wanted > 0 and written.status == 0
     is_shown = form == "lines" and os.isatty(2)
@@ -55,7 +60,7 @@ def collection(arguments: Arguments) -> int:
     if less:
         answer.update(status=NOT_COMPLETE, wanted=wanted)
     if form == "page" and answer:
-        write(_page(files, logs, answer))
+        write(_page(files, logs, ages, answer))
     elif form == "json" and less:
         write([json.dumps(answer, ensure_ascii=False, separators=(",", ":")), "\n"])
     else:
@@ -115,20 +120,20 @@ def _less(answer: Object, wanted: int) -> str:
     return too_small(least, wanted, where)
 
 
-def _page(files: Files, logs: Mapping[str, Denied], found: Object) -> Iterator[str]:
+def _page(files: Files, logs: Mapping[str, Denied], ages: Ages, found: Object) -> Iterator[str]:
     """One HTML file that draws the object, with when each log's file was changed, and the texts of
     logs, those first that have to be counted again. Some of the files are logs."""
     room = MOST_TEXT
     # of a log in a text of surveys the oldest of these texts may be the one that has it
-    ages = [age for name, text in files if text.startswith(SURVEYS) and name not in logs
-            for age in _changed(name)]
+    old = sorted(age for name, text in files if text.startswith(SURVEYS) and name not in logs
+                 for age in ages.get(name, []))
     for log in sorted(found["logs"], key=lambda it: it["field"] == "possible" and not it["open"]):
         name, text, (denied, digest) = log["name"], b"", logs.get(log["name"], ([], ""))
         if digest and os.path.isfile(name):
             text = read_log(name)
             if sha256(text).hexdigest() != digest:
                 raise NoAnswer(f"{shown(name)} has changed since it was read first")
-        log.update([("changed", age) for age in (_changed(name) if digest else sorted(ages)[:1])],
+        log.update([("changed", age) for age in (ages.get(name, []) if digest else old[:1])],
                    denied=denied, **({"sha256": digest} if digest else {}))
         room -= len(text)
         if text and room >= 0:
@@ -143,11 +148,6 @@ def _page(files: Files, logs: Mapping[str, Denied], found: Object) -> Iterator[s
     lines = _written("reconcile", files).text.decode()
     answer = _less(found, found["wanted"]) if "wanted" in found else found["answer"]
     return document(f"{name}: {answer}", [json.dumps(found)], lines.splitlines())
-
-
-def _changed(name: str) -> list[int]:
-    """When a file was changed, as a page has it; of what is no file nothing is known."""
-    return [os.stat(name).st_mtime_ns // 1_000_000] if os.path.isfile(name) else []
 
 
 def _tables(files: Files) -> Files:
