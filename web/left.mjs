@@ -48,14 +48,14 @@ const namesIn = (file) => kindOf(file) === "surveys" ? surveyedIn(file) : [file.
  * Of which places a table of places names logs.
  * @param {Entry} table
  */
-const placesIn = ({ text }) => logsNamed(new TextDecoder().decode(text)).map(({ place }) => place);
+const placesNamed = ({ text }) => logsNamed(new TextDecoder().decode(text)).map(({ place }) => place);
 
 /**
  * The roots of the names of logs, catalogues and places.
  * @param {Entry[]} files
  * @param {CollectionObject} [object]
  */
-const rootsOf = (files, object) => [...new Set([...files.flatMap((it) => isATable(it) && isPlaces(it) ? placesIn(it) : namesIn(it)),
+const rootsOf = (files, object) => [...new Set([...files.flatMap((it) => isATable(it) && isPlaces(it) ? placesNamed(it) : namesIn(it)),
   ...new Set(object?.items.flatMap(({ place }) => place ?? []))].map(rootOf))];
 
 /**
