@@ -167,7 +167,8 @@ def lights(page, values):
 def sure(page, values, given, look):
     """The look of the answer, and the other lights: how often each other tag was asked, and what
     may be wrong if replies were hidden, or else the reader was deaf. If that went deaf behind its
-    last answer, its silent slots say nothing; so a list is green only beside what it is worth then."""
+    last answer, its silent slots say nothing; so a list is green only beside what it is worth
+    then."""
     page.until(f".banner.{look} h1", "")
     names = "Each other tag was asked", "If replies were hidden", "If the reader went deaf"
     wanted = {name: it for name, it in zip(names, values.split(" / "), strict=True) if it != "-"}

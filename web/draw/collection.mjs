@@ -167,7 +167,7 @@ function saidOf({ field, certain = 0, open = [] }) {
 function grantedOfAll(object) {
   const { margin } = object, { shelves, isUnsettled } = summaryOf(object), all = [...margin && !isUnsettled ? missed(margin, ` ${shelves.fields([margin.log])}`) : [], ...granted(!object.logs.some(({ hidden }) => hidden)), CARRIED,
     `The catalogue is complete. It has ${count(object.items.length, "row")}: what isn't in it is never missed.`, PROVED];
-  return [folded(`What this takes for granted (${all.length})`, !object.status, bullets(all))];
+  return [folded(`What this takes for granted (${all.length})`, !object.status || !!object.wanted, bullets(all))];
 }
 
 /** @param {CollectionObject} object */
