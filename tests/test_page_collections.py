@@ -1329,6 +1329,12 @@ def test_logs_that_stay_are_asked_about_as_soon_as_a_newer_one_leaves(page):
     page.wait(lambda: page.texts("#logs .sign") == ["i", "i"])
 
 
+def test_a_place_is_called_by_its_name_whatever_signs_it_has(page):
+    drop(page, {"books.csv": books((UID_A, ",R$&"), (UID_B, ",B")), "B.log": field(UID_B),
+                "R$&.log": field(UID_A, is_heard=False)})
+    page.until("h1", "no others, if the reader of R$& heard to the end.")
+
+
 def test_that_both_count_is_said_of_these_files(page):
     drop(page, {"books.csv": books((UID_A, ""), (UID_B, ""), head="uid,title"),
                 "A.log": field(UID_A), "A (1).log": field(UID_B)})

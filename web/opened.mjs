@@ -185,7 +185,7 @@ export function without({ tables, logs, both, left }, gone, kept, object) {
   const others = (/** @type {Entry[]} */ list) => list.filter((it) => !gone.includes(it)), takes = of(kept)?.left_over && of(name)?.place;
   const rest = { tables: others(tables), both, left: [...left, ...out], logs: calledAs(others(logs), takes && kept ? [[kept, name]] : []) };
   return rest.tables.length ? [collected(rest, [...wasEach(out), ...asOthers(rest.logs, takes ? [name] : [])].join(" "))]
-    : rest.logs.map((log) => ({ ...log, left: rest.left, both }));
+    : rest.logs.map((log) => ({ ...log, left: rest.left, both, note: wasEach(out).join(" ") }));
 }
 
 /**

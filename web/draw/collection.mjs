@@ -54,8 +54,8 @@ export function collectionView(object, opener = () => null, canLeave = () => fal
   const done = [...logs.keys()].filter((it) => !open.includes(it)), isBroken = open.some((it) => logs[it].field.startsWith(KIND.IMPOSSIBLE));
   const again = `Count ${open.length === 1 ? "it" : "each"} again, to the end, in a new log.`, heard = shelves.fields(shelves.sorted(deaf));
   const byEye = counts["no tag"] ? [`Look for ${count(counts["no tag"], "item")} by eye, as said below.`] : [];
-  const apart = shelves.sorted(hiding), [spread, send] = SENTENCES.steps.oneMore, oneMore = hiding.length ? [spread.replace(",", ` ${shelves.fields(apart)},`),
-    send.replace("the log", `the log${apart.length > 1 ? "s" : ""} of ${shelves.names(apart)}`)] : byEye.length ? [] : deaf.length ? [`Nothing to do at the shelves. Whoever maintains the reader can let it show that it heard to the end ${heard}, as said below.`] : SENTENCES.steps.nothing;
+  const apart = shelves.sorted(hiding), [spread, send] = SENTENCES.steps.oneMore, oneMore = hiding.length ? [spread.replace(",", () => ` ${shelves.fields(apart)},`),
+    send.replace("the log", () => `the log${apart.length > 1 ? "s" : ""} of ${shelves.names(apart)}`)] : byEye.length ? [] : deaf.length ? [`Nothing to do at the shelves. Whoever maintains the reader can let it show that it heard to the end ${heard}, as said below.`] : SENTENCES.steps.nothing;
   const steps = [...byEye, ...object.wanted ? [ASK_MORE] : oneMore].map((it) => el("li", {}, it));
   const first = places.length ? ` that was counted. First count ${firstOf(places.map(printable))}: they may be there` : "";
   const look = (counts.missing ? `Missing items ${logs.length > 1 || first ? `answered on no shelf${first}` : "didn't answer"}. ${LOOK_FOR}` : "") +

@@ -164,7 +164,7 @@ export function older(files, both = []) {
 export function ofOtherDays(logs, both = []) {
   const newest = Math.max(0, ...logs.map(({ changed = 0 }) => changed)), isAsked = (/** @type {Aged} */ it) => it.newer && !both.includes(olderOne(it));
   const late = logs.filter((it) => (it.changed ?? newest) < newest - HALF_A_DAY && !isAsked(it)), names = late.map(({ name, of = name }) => of);
-  const key = [newest, ...late.map(olderOne)].join(), isOne = late.length === 1, [log, is, they] = isOne ? ["log", "is", "It is"] : ["logs", "are", "They are"];
+  const key = logs.map(olderOne).join(), isOne = late.length === 1, [log, is, they] = isOne ? ["log", "is", "It is"] : ["logs", "are", "They are"];
   const other = `${isOne ? "its file" : `the file of ${names[0]}`} is of ${dated(late[0]?.changed)}, the newest of ${dated(newest)}`;
   return !late.length ? [] : [{ short: `the ${log} of ${firstOf(names)} ${is} more than 12 hours older`, mayNotCount: true,
     words: `The ${log} of ${firstOf(names, "and", MOST_LISTED)} ${is} older than the others: ${other}.`,

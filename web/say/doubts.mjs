@@ -132,5 +132,5 @@ function notAsked({ logs, columns, items, status }, { isAsked }) {
   const isNear = meaning.some(({ like, cells }) => like?.[1] || cells.size > 1), heads = meaning.map(({ head }) => `'${printable(head)}'`);
   // one field needs no places, if all is there, and no column is called almost so, or has several places
   return isAsked || logs.length < 2 && !(heads.length && (isNear || status)) ? []
-    : [{ short: "where each belongs wasn't asked", words: noPlaces, cure: heads.length ? meant.replace("{}", listing(heads, "or")) : NO_PLACES }];
+    : [{ short: "where each belongs wasn't asked", words: noPlaces, cure: heads.length ? meant.replace("{}", () => listing(heads, "or")) : NO_PLACES }];
 }

@@ -48,7 +48,7 @@ export function refused(told) {
   if (!counts.lines) return { headline: `The ${UNNAMED.test(file) ? "" : "file "}${printable(file)} is empty.`, shelf: SENTENCES.files.text.slice(2), causes: [] };
   if (isForeign(told)) {
     const [, [, what, ...fix]] = foundIn(faulty);
-    return { headline: SENTENCES.answers.foreign.replace("{}", what), shelf: [...fix, LOG_IS], causes: [] };
+    return { headline: SENTENCES.answers.foreign.replace("{}", () => what), shelf: [...fix, LOG_IS], causes: [] };
   }
   const { wrong, fix } = advice(fault, /^[RH] /.test(faulty) ? SENTENCES.replies : {}, SENTENCES.faults), first = ofFirst(faulty, line);
   const [, frame, crc] = fault === "Crc" && faulty.match(/^. (.*)(....) *$/) || [];

@@ -72,8 +72,8 @@ export function headlineOf(object) {
   const but = [...untagged, ...said.slice(0, MOST_DOUBTS), ...more > 0 ? [`${more} more`] : []];
   const kind = without ? "tagged item" : "expected item", all = here === 1 ? `The one ${kind} is` : `All ${count(here, kind)} are`;
   if (isUnsettled) return `${all} in some log; but ${listing(but)}.`;
-  const others = noOthers(here, hiding.length > 0, deaf.length > 0).replace("may be,", `may be ${shelves.fields(shelves.sorted(hiding))},`)
-    .replace("the reader", `the reader${deaf.length > 1 ? "s" : ""} of ${shelves.names(shelves.sorted(deaf))}`);
+  const others = noOthers(here, hiding.length > 0, deaf.length > 0).replace("may be,", () => `may be ${shelves.fields(shelves.sorted(hiding))},`)
+    .replace("the reader", () => `the reader${deaf.length > 1 ? "s" : ""} of ${shelves.names(shelves.sorted(deaf))}`);
   return `${here ? `${all} here${others}` : NOTHING}${but.length ? ` But ${listing(but)}.` : ""}`;
 }
 
