@@ -80,7 +80,7 @@ export const leftAs = (list, how = "") => list.map((file) => /** @type {Left} */
  * @param {CollectionObject} [object] of the collection, if it was judged
  */
 export const closedWith = (left, files, object, closed = rootsOf(files, object)) =>
-  [...left, ...leftAs(files)].map((it) => ({ ...it, how: "", closed: it.closed ?? closed }));
+  [...left, ...leftAs(files)].map((it) => ({ ...it, how: "", closed: it.closed ?? [...closed, ...rootsOf(it.file ? [it.file] : [])] }));
 
 /**
  * Puts it to what is known of the open files of a collection which newer ones aren't here: each that left it, or a collection with which it
