@@ -1155,7 +1155,7 @@ def test_nothing_is_shown_while_a_file_is_read(page, is_stopped):
 
 def test_the_logs_before_are_not_shown_while_a_file_is_read(page):
     page.drop(one=log_of("I1 RA UA"), two=log_of("I1 RA QA I1 S UA"))
-    page.until("h1", "Complete: 2 of 2.")
+    page.until("h1", "nothing left open: 0 of 2.")
     page.run(SLOW)
     page.drop(**{"slow.log": log_of("I1 S UA"), "books.csv": b"uid\n"})
     assert (page.texts("h1"), page.texts("#logs button"), page.driver.title) == (
@@ -1330,7 +1330,7 @@ def test_a_page_that_a_browser_has_saved(page, tmp_path):
     page.drop(one=log_of("I1 RA QA I1 S UA"), two=log_of("I1 S UA"))
     page.press("#logs button")
     page.until("h1", "The one listed tag is here")
-    page.until("#each", "Complete: 1 of 2.")
+    page.until("#each", "nothing left open: 0 of 2.")
     file = tmp_path / "saved.html"
     file.write_text(page.run(AS_SAVED))
     page.open(file)
