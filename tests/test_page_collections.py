@@ -1291,6 +1291,9 @@ OLDER_THAN_GONE = {
         ({"books.csv": BOTH}, 0)),
     "a catalogue that wasn't whole": (({"books.csv": BOTH}, 0), ({**OLD_A, **OLD_B}, 2),
                                       ({"books.csv.crdownload": b"uid"}, 1), "Back"),
+    "what was refused": (
+        ({"list.csv": b"uid,place\nE0040100000000A1,A\nno UID,B\n", "x1.log": field(),
+          "x2.log": field(UID_B)}, 3), (COMPLETE, 0)),
     "left out before another collection": (
         ({"north.csv": books((UID_C, ",N")), "N.log": field(UID_C), "A.log": field()}, 3),
         "Leave out A.log", (COMPLETE, 0)),

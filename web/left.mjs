@@ -74,13 +74,13 @@ export const leftAs = (list, how = "") => list.map((file) => /** @type {Left} */
   id: Math.random(), file: isStrange(file) && !isBroken(file) || file.made && !isATable(file) ? undefined : file }));
 
 /**
- * What left before a collection was closed, and with it: how isn't said of the next one.
+ * What left before a collection was closed, and with it: how isn't said of the next one. What wasn't judged may have had any names.
  * @param {Left[]} left
  * @param {Entry[]} files
  * @param {CollectionObject} [object] of the collection, if it was judged
  */
-export const closedWith = (left, files, object, closed = rootsOf(files, object)) =>
-  [...left, ...leftAs(files)].map((it) => ({ ...it, how: "", closed: it.closed ?? [...closed, ...rootsOf(it.file ? [it.file] : [])] }));
+export const closedWith = (left, files, object, closed = object ? rootsOf(files, object) : []) => [...left, ...leftAs(files)].map((it) =>
+  ({ ...it, how: "", closed: it.closed ?? (object && it.file ? [...closed, ...rootsOf([it.file])] : closed) }));
 
 /**
  * Puts it to what is known of the open files of a collection which newer ones aren't here: each that left it, or a collection with which it

@@ -181,11 +181,11 @@ class Asked(Command):
             self.assertEqual([(it["name"], it["changed"], it.keys() & {"sha256", "object"})
                               for it in drawn], [(name, 15693_000, set())])
 
-    def test_a_text_of_surveys_that_is_written_anew_has_the_time_of_what_was_read(self):
-        """Also if it is gone then: it is what was judged."""
+    def test_a_text_of_surveys_that_is_gone_has_the_time_of_what_was_read(self):
+        """Written anew, it may be either that was judged."""
         catalogue = self.catalogue("uid\nE0040100000000A1\n")
         survey, pages = vicinity.survey(log(ALL + HEARD_A), "a.log").text, collection._page
-        for then in os.utime, os.remove:
+        for then, status in (os.utime, 4), (os.remove, 0):
             surveys = self.write("old.surveys", survey)
             os.utime(surveys, (15693, 15693))
 
@@ -194,9 +194,12 @@ class Asked(Command):
                 return pages(*given)
 
             with mock.patch.object(collection, "_page", changed):
-                said = within("collection", "--page", catalogue, surveys)[0]
-            self.assertEqual([it["changed"] for it in drawn_in(said.decode())[0]["logs"]],
-                             [15693_000])
+                said = within("collection", "--page", catalogue, surveys)
+            self.assertEqual(said[1:], (b"" if status == 0 else f"vicinity: {surveys} has changed "
+                                        "since it was read first\n".encode(), status))
+            if status == 0:
+                (drawn,) = drawn_in(said[0].decode())[0]["logs"]
+                self.assertEqual(drawn["changed"], 15693_000)
 
     def test_a_log_that_changes_meanwhile(self):
         """What is said of the first is never said beside the second, also where only its own list

@@ -6,7 +6,7 @@ import os
 from concurrent.futures import ThreadPoolExecutor
 from functools import partial
 from hashlib import sha256
-from typing import Any, Iterator, Mapping, Optional, Sequence
+from typing import Any, Iterable, Iterator, Mapping, Optional, Sequence
 
 from .._native import VERSION, library
 from .._objects import NOT_COMPLETE, Object, object_of, too_small
@@ -47,12 +47,9 @@ def collection(arguments: Arguments) -> int:
     library()
     form, wanted = arguments.form, arguments.margin
     names = names_of(arguments)
-    # before they are read: if one is written anew meanwhile, it counts as older than it is
-    ages = {it: [os.stat(it).st_mtime_ns // 1_000_000] for it in names if os.path.isfile(it)}
-    files, logs = _read(names, arguments.jobs, form == "page")
+    ages, (files, logs) = _ages(names), _read(names, arguments.jobs, form == "page")
     written, answer = _written(WRITES[form], files), dict[str, Any]()
-    is_measured = wanted > 0 and written.status == 0
-    is_shown = form == "lines" and os.isatty(2)
+    is_measured, is_shown = wanted > 0 and written.status == 0, form == "lines" and os.isatty(2)
     if form == "page" or is_measured or is_shown:
         text = written.text if OBJECT == WRITES[form] else _written(OBJECT, files).text
         answer = json.loads(text) if text.startswith(b"{") else answer
@@ -80,8 +77,7 @@ def _read(names: Sequence[str], jobs: int, is_drawn: bool) -> tuple[Files, Mappi
     with ThreadPoolExecutor(jobs) as pool:
         each = partial(_file, is_drawn)
         files = list(pool.map(each, names) if jobs > 1 else map(each, names))
-    denied = {name: uids for (name, _), uids in files if uids is not None}
-    return [file for file, _ in files], denied
+    return [file for file, _ in files], {name: it for (name, _), it in files if it is not None}
 
 
 def _file(is_drawn: bool, name: str) -> tuple[tuple[str, bytes], Optional[Denied]]:
@@ -123,7 +119,7 @@ def _less(answer: Object, wanted: int) -> str:
 def _page(files: Files, logs: Mapping[str, Denied], ages: Ages, found: Object) -> Iterator[str]:
     """One HTML file that draws the object, with when each log's file was changed, and the texts of
     logs, those first that have to be counted again. Some of the files are logs."""
-    room = MOST_TEXT
+    room, late = MOST_TEXT, [it for it, age in _ages(ages).items() if age != ages[it]]
     # of a log in a text of surveys the oldest of these texts may be the one that has it
     old = sorted(age for name, text in files if text.startswith(SURVEYS) and name not in logs
                  for age in ages.get(name, []))
@@ -131,13 +127,14 @@ def _page(files: Files, logs: Mapping[str, Denied], ages: Ages, found: Object) -
         name, text, (denied, digest) = log["name"], b"", logs.get(log["name"], ([], ""))
         if digest and os.path.isfile(name):
             text = read_log(name)
-            if sha256(text).hexdigest() != digest:
-                raise NoAnswer(f"{shown(name)} has changed since it was read first")
+            late += [name] * (sha256(text).hexdigest() != digest)
         log.update([("changed", age) for age in (ages.get(name, []) if digest else old[:1])],
                    denied=denied, **({"sha256": digest} if digest else {}))
         room -= len(text)
         if text and room >= 0:
             log["object"] = page_object(shown(os.path.basename(name)), JudgedLog(text))
+    if late:
+        raise NoAnswer(f"{shown(late[0])} has changed since it was read first")
     tables = _tables(files)
     name = shown(os.path.basename(next(name for name, text in tables if columns_of(text))))
     # of a table of places the page says which logs it names
@@ -148,6 +145,11 @@ def _page(files: Files, logs: Mapping[str, Denied], ages: Ages, found: Object) -
     lines = _written("reconcile", files).text.decode()
     answer = _less(found, found["wanted"]) if "wanted" in found else found["answer"]
     return document(f"{name}: {answer}", [json.dumps(found)], lines.splitlines())
+
+
+def _ages(names: Iterable[str]) -> Ages:
+    """When files were changed: once before they are read, and once more when all is."""
+    return {it: [os.stat(it).st_mtime_ns // 1_000_000] for it in names if os.path.isfile(it)}
 
 
 def _tables(files: Files) -> Files:
