@@ -1291,6 +1291,11 @@ OLDER_THAN_GONE = {
         ({"books.csv": BOTH}, 0)),
     "a catalogue that wasn't whole": (({"books.csv": BOTH}, 0), ({**OLD_A, **OLD_B}, 2),
                                       ({"books.csv.crdownload": b"uid"}, 1), "Back"),
+    "torn, with bytes of no text": (
+        (COMPLETE, 0), ({"A.log": b"vicinity-log 3\n\x00\xe9"}, 1), "Back"),
+    "interchanged": (
+        ({"books.csv": BOTH, "A.log": field(), "B.log": field(UID_A)}, 3),
+        ({"A.log": field(UID_B)}, 1), "Count each as the other"),
     "what was refused": (
         ({"list.csv": b"uid,place\nE0040100000000A1,A\nno UID,B\n", "x1.log": field(),
           "x2.log": field(UID_B)}, 3), (COMPLETE, 0)),

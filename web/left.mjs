@@ -71,7 +71,7 @@ const isSame = ({ text: one }, { text: other }) => one.length > 0 && one.length 
  * @param {string | ((file: Entry) => string)} [how] nothing if it isn't said of each
  */
 export const leftAs = (list, how = "") => list.map((file) => /** @type {Left} */ ({ name: file.was ?? file.name, how: typeof how === "string" ? how : how(file),
-  id: Math.random(), file: isStrange(file) && !isBroken(file) || file.made && !isATable(file) ? undefined : file }));
+  id: Math.random(), file: isStrange(file) && !isBroken(file) && !MARK.test(startOf(file)) || file.made && !isATable(file) ? undefined : file }));
 
 /**
  * What left before a collection was closed, and with it: how isn't said of the next one. What wasn't judged may have had any names.
@@ -126,7 +126,8 @@ function put(all, left, keyOf) {
   for (const { into, file: { changed } } of open) Object.assign(into, { changed, beside: undefined });
   for (const { file, than, id } of left.flatMap(({ file, name, id }) => file ? [{ file, than: name, id }] : [])) {
     const { changed: newer = 0 } = file, isOlder = (/** @type {typeof open[0]} */ one) => (one.file.changed ?? Infinity) < newer;
-    const late = keysOf(file).filter((key) => !byKey.get(key)?.some(({ it }) => !isOlder(it) || isSame(it.file, file)));
+    // what counts by another name than its own is no new count of either
+    const late = keysOf(file).filter((key) => !byKey.get(key)?.some(({ it }) => !isOlder(it) && !it.file.was || isSame(it.file, file)));
     const isHere = late.length && open.some((it) => isSame(it.file, file) && (it.file.changed === newer || uncopied(bareOf(it.file.name)) === uncopied(bareOf(file.name))));
     // what has no mark of a log, and no column of a catalogue, is one only by its name
     const isStray = strangeness(file) && !MARK.test(startOf(file)), its = namesIn(file).map(rootOf);
