@@ -1474,7 +1474,7 @@ def test_many_logs_do_not_freeze_the_page(page):
     with page.never_frozen():
         page.drop_files({f"{number}.log": log_of("I1 RA QA I1 S UA") for number in range(400)})
         page.run("document.querySelector('#logs button').focus()")
-        page.when("h1", "Complete: 400 of 400.")
+        page.when("h1", "nothing left open: 0 of 400.")
     assert page.run("return document.activeElement.textContent").startswith("i0.log The one")
 
 
