@@ -1049,7 +1049,7 @@ def test_no_collection_is_judged_without_one_of_its_logs(page, why):
         page.drop(**{name: OF_A})
         page.until(".error", f"{name}: no answer (two: {why}).")
         assert page.texts("#told li") == [
-            "Open all files again, together: the logs and the catalogue."]
+            "Open it again under its name, or leave it out.", "All other files are still here."]
 
 
 def test_no_answer_stands_beside_another_log_of_the_same_name(page):

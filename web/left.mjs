@@ -1,12 +1,10 @@
-/** What was here and isn't any more, and which open files are older than that. */
-import { hasUids, isBroken, isPlaces, isSpreadsheet, isStrange, kindOf, logsNamed, startOf, stemOf, surveyedIn, uncopied } from "./judge/files.mjs";
-import { grouped, madeOnce } from "./judge/groups.mjs";
+/** Which open files are older than what was here since the page was empty. */
+import { hasUids, isBroken, isPlaces, isSpreadsheet, isStrange, kindOf, startOf, stemOf, surveyedIn, uncopied } from "./judge/files.mjs";
+import { grouped } from "./judge/groups.mjs";
 import { SENTENCES } from "./say/sentences.mjs";
 
 /** @typedef {import("./opened.mjs").Entry} Entry */
 /** @typedef {import("./judge/objects.mjs").CollectionObject} CollectionObject */
-/** @typedef {{name: string, how: string, id: number, file?: Entry, closed?: string[]}} Left what isn't here any more: how it left, if that is said as
- *   long as it isn't back; by what answers know it; the file, if that may have been a log or a table; of what was closed the roots of all names in it */
 /** @typedef {{changed?: number, newer?: number, than?: string, beside?: number}} Age when a file was changed, and the newest one beside which it may
  *   not count; and the sum of what these are known by */
 
@@ -33,30 +31,25 @@ export const strangeness = (entry) => kindOf(entry) !== "other" && (!isCatalogue
  */
 export const bareOf = (name) => stemOf(name.replace(UNFINISHED, "").replace(/\.\d+$/, "$&."));
 /**
- * A name without dates, numbers and what copies have: where two have the same, they may be of one thing.
+ * A name without dates, numbers and what copies have: what has no mark of a log counts only where an open file has the same.
  * @param {string} name
  */
 const rootOf = (name) => uncopied(bareOf(name)).replace(/[^\p{L}]+/gu, "").toLowerCase();
+
+
+/** @typedef {{into: Age & {place?: string | null}, file: Entry, name: string}} Opened an open file, or a log in a text of surveys, by its own name */
 
 /**
  * What a file is called, or the logs in it.
  * @param {Entry} file
  */
-const namesIn = (file) => kindOf(file) === "surveys" ? surveyedIn(file) : [file.name, file.was ?? file.name];
+const namesIn = (file, name = file.was ?? file.name) => kindOf(file) === "surveys" ? surveyedIn(file) : [name];
 
 /**
- * Of which places a table of places names logs.
- * @param {Entry} table
+ * Of which log an open one is a count: a copy of that which was copied, unless it has a place of its own.
+ * @param {Opened} it
  */
-const placesNamed = ({ text }) => logsNamed(new TextDecoder().decode(text)).map(({ place }) => place);
-
-/**
- * The roots of the names of logs, catalogues and places.
- * @param {Entry[]} files
- * @param {CollectionObject} [object]
- */
-const rootsOf = (files, object) => [...new Set([...files.flatMap((it) => isATable(it) && isPlaces(it) ? placesNamed(it) : namesIn(it)),
-  ...new Set(object?.items.flatMap(({ place }) => place ?? []))].map(rootOf))];
+const keyOf = ({ into: { place }, name }) => place === bareOf(name) ? bareOf(name) : uncopied(bareOf(name));
 
 /**
  * Whether two files have the same bytes.
@@ -66,74 +59,68 @@ const rootsOf = (files, object) => [...new Set([...files.flatMap((it) => isATabl
 const isSame = ({ text: one }, { text: other }) => one.length > 0 && one.length === other.length && one.every((byte, at) => byte === other[at]);
 
 /**
- * Files that leave.
- * @param {Entry[]} list
- * @param {string | ((file: Entry) => string)} [how] nothing if it isn't said of each
+ * What isn't open any more, but what by its bytes was no log and no table, and what was typed.
+ * @param {Entry[]} seen
+ * @param {Entry[]} open
  */
-export const leftAs = (list, how = "") => list.map((file) => /** @type {Left} */ ({ name: file.was ?? file.name, how: typeof how === "string" ? how : how(file),
-  id: Math.random(), file: isStrange(file) && !isBroken(file) && !MARK.test(startOf(file)) || file.made && !isATable(file) ? undefined : file }));
-
-/**
- * What left before a collection was closed, and with it: how isn't said of the next one. What wasn't judged may have had any names.
- * @param {Left[]} left
- * @param {Entry[]} files
- * @param {CollectionObject} [object] of the collection, if it was judged
- */
-export const closedWith = (left, files, object, closed = object ? rootsOf(files, object) : []) => [...left, ...leftAs(files)].map((it) =>
-  ({ ...it, how: "", closed: it.closed ?? (object && it.file ? [...closed, ...rootsOf([it.file])] : closed) }));
-
-/**
- * Puts it to what is known of the open files of a collection which newer ones aren't here: each that left it, or a collection with which it
- * has a root in common.
- * @param {CollectionObject} object
- * @param {import("./opened.mjs").Collection} given
- */
-export function putAges(object, { tables, logs, left }) {
-  const named = object.files.find(({ text }) => text !== undefined)?.text, roots = new Set(rootsOf([...tables, ...logs], object));
-  const known = new Set(named === undefined ? object.items.flatMap(({ place }) => place ?? []) : logsNamed(named).map(({ log }) => log));
-  // by what the library finds a log, or else its name
-  const keyOf = (/** @type {string} */ name) => [name, name.split(/[/\\]/).pop() ?? "", stemOf(name), uncopied(stemOf(name))].find((it) => known.has(it)) ?? bareOf(name);
-  const files = new Map(logs.flatMap((file) => (file.was ? [file.name] : namesIn(file)).map((name) => [name, file])));
-  const fileOf = (/** @type {string} */ name) => files.get(name) ?? /** @type {Entry} */ ({ name, text: new Uint8Array() });
-  const ofLogs = object.logs.map((log) => ({ into: Object.assign(log, { was: fileOf(log.name).was }), file: fileOf(log.name), names: [log.name] }));
-  const groups = /** @type {Map<string[] | undefined, boolean>} */ (new Map());
-  put([...tables.map((file, at) => ({ into: object.files[at], file, names: [file.name] })), ...ofLogs],
-    left.filter(({ closed }) => madeOnce(groups, closed, () => !closed?.length || closed.some((root) => roots.has(root)))), keyOf);
+export function awayOf(seen, open) {
+  const ids = new Set(open.map(({ id }) => id)), isNothing = (/** @type {Entry} */ it) => isStrange(it) && !isBroken(it) && !MARK.test(startOf(it));
+  return seen.filter((it) => !ids.has(it.id) && !isNothing(it) && (!it.made || isATable(it)));
 }
 
 /**
- * The same of a log by itself: which newer ones of its name aren't here.
- * @param {Age} into
- * @param {Entry} file
+ * Puts it to what is known of the files of a collection which newer ones aren't here.
+ * @param {CollectionObject} object
+ * @param {import("./opened.mjs").Collection} given
+ * @param {Entry[]} away
  */
-export const putAge = (into, file) => put([{ into, file, names: [file.name] }], (file.left ?? []).filter((it) => it.file && namesIn(it.file).some((name) =>
-  namesIn(file).some((other) => stemOf(name) === stemOf(other) || uncopied(bareOf(name)) === uncopied(bareOf(other))))), bareOf);
+export function putAges(object, { tables, logs }, away) {
+  const byName = new Map(logs.flatMap((file) => namesIn(file, file.name).map((name) => [name, file])));
+  const ofLogs = object.logs.flatMap((into) => {
+    const file = byName.get(into.name);
+    return file ? { into: Object.assign(into, { was: file.was }), file, name: file.was ?? into.name } : [];
+  });
+  put([...tables.map((file, at) => ({ into: object.files[at], file, name: file.name })), ...ofLogs], away);
+}
 
 /**
- * What left counts unless a file of its name that is as new is open, or itself. If an older one of its name is, that may not count; otherwise
- * each log that is older.
- * @param {{into: Age, file: Entry, names: string[]}[]} all
- * @param {Left[]} left
- * @param {(name: string) => string} keyOf
+ * The same of a log by itself: only of its name.
+ * @param {Age} into
+ * @param {Entry} file
+ * @param {Entry[]} away
  */
-function put(all, left, keyOf) {
-  // what couldn't be read is by its name an open table, or else a log
-  const named = new Map(all.flatMap(({ file }) => isATable(file) ? [/** @type {const} */ ([file.name, `/${isPlaces(file)}`])] : []));
-  const keysOf = (/** @type {Entry} */ file, names = namesIn(file)) => isATable(file) && !strangeness(file) ? [`/${isPlaces(file)}`]
-    : names.map((name) => !file.text.length && named.get(name.replace(UNFINISHED, "")) || keyOf(name));
-  const open = all.map((it) => ({ ...it, isLog: !isATable(it.file), keys: keysOf(it.file, [...it.names, it.file.was ?? it.names[0]]) }));
-  const byKey = grouped(open.flatMap((it) => it.keys.map((key) => ({ key, it }))), ({ key }) => key);
-  for (const { into, file: { changed } } of open) Object.assign(into, { changed, beside: undefined });
-  for (const { file, than, id } of left.flatMap(({ file, name, id }) => file ? [{ file, than: name, id }] : [])) {
-    const { changed: newer = 0 } = file, isOlder = (/** @type {typeof open[0]} */ one) => (one.file.changed ?? Infinity) < newer;
-    // what counts by another name than its own is no new count of either
-    const late = keysOf(file).filter((key) => !byKey.get(key)?.some(({ it }) => !isOlder(it) && !it.file.was || isSame(it.file, file)));
-    const isHere = late.length && open.some((it) => isSame(it.file, file) && (it.file.changed === newer || uncopied(bareOf(it.file.name)) === uncopied(bareOf(file.name))));
-    // what has no mark of a log, and no column of a catalogue, is one only by its name
-    const isStray = strangeness(file) && !MARK.test(startOf(file)), its = namesIn(file).map(rootOf);
-    const others = () => open.filter(({ isLog, names }) => isStray ? names.some((name) => its.includes(rootOf(name))) : isLog || isATable(file) || !file.text.length);
-    // what counted as another is first of that one's name
-    const beside = isHere ? [] : late.flatMap((key) => byKey.get(key)?.map(({ it }) => it) ?? (file.was && key !== keyOf(file.name) ? [] : others()));
-    for (const { into } of new Set(beside.filter(isOlder))) Object.assign(into, { beside: (into.beside ?? 0) + id }, newer > (into.newer ?? 0) && { newer, than });
+export function putAge(into, file, away, one = { into, file, name: file.was ?? file.name }) {
+  put([one], away.filter((it) => namesIn(it).some((name) => uncopied(bareOf(name)) === keyOf(one))));
+}
+
+/**
+ * Each file that isn't here any more is asked about beside open ones that are older.
+ * @param {Opened[]} open
+ * @param {Entry[]} away
+ */
+function put(open, away) {
+  const byKey = grouped(open, keyOf);
+  for (const { into, file: { changed } } of open) Object.assign(into, { changed, newer: undefined, than: undefined, beside: undefined });
+  for (const gone of away) {
+    const { changed: newer = 0, name: than, id } = gone, older = open.filter(({ file }) => (file.changed ?? Infinity) < newer && !isSame(file, gone));
+    const beside = new Set(older.length ? besideOf(gone, open, byKey) : []);
+    for (const { into } of older.filter((it) => beside.has(it))) Object.assign(into, { beside: (into.beside ?? 0) + id }, newer > (into.newer ?? -Infinity) && { newer, than });
   }
+}
+
+/**
+ * Beside which: tables of its kind, logs of its name; where there are none, all, but a file that is here by another name. What has no mark
+ * of a log, and no column of a catalogue, was one only by its name.
+ * @param {Entry} gone
+ * @param {Opened[]} open
+ * @param {Map<string, Opened[]>} byKey
+ */
+function besideOf(gone, open, byKey) {
+  if (strangeness(gone) && !MARK.test(startOf(gone))) return open.filter(({ name }) => rootOf(name) === rootOf(gone.name));
+  const tables = open.filter(({ file }) => isATable(file));
+  if (isATable(gone)) return [tables.filter(({ file }) => isPlaces(file) === isPlaces(gone)), open].find((list) => list.length) ?? [];
+  // what couldn't be read may have been a table
+  const all = open.filter((it) => !gone.text.length || !tables.includes(it)), isHere = all.some(({ file }) => file.changed === gone.changed && isSame(file, gone));
+  const named = (/** @type {string} */ key) => byKey.get(key)?.filter((it) => all.includes(it)) ?? [];
+  return namesIn(gone).flatMap((name) => [named(bareOf(name)), named(uncopied(bareOf(name))), isHere ? [] : all].find((list) => list.length) ?? []);
 }

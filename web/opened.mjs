@@ -1,25 +1,25 @@
 /** What is opened: files as logs, each with its text, or together a collection, which has none of its own. */
 import { isPlaces, isStrange, surveyedIn } from "./judge/files.mjs";
 import { grouped } from "./judge/groups.mjs";
-import { bareOf, closedWith, isATable, isCatalogue, leftAs, NO_LOG, putAge, putAges, strangeness, UNFINISHED } from "./left.mjs";
+import { bareOf, isATable, isCatalogue, NO_LOG, putAge, putAges, strangeness, UNFINISHED } from "./left.mjs";
 import { firstOf, MOST_LISTED } from "./say/shelves.mjs";
 import { count, listing, printable } from "./say/words.mjs";
 import { STOPPED } from "./work.mjs";
 
 /** @typedef {import("./judge/files.mjs").Given} Given */
 /** @typedef {import("./judge/objects.mjs").CollectionObject} CollectionObject */
-/** @typedef {import("./left.mjs").Left} Left */
+/** @typedef {{name: string, how: string, changed?: number}} Left what isn't here any more, and how it left, which is said as long as it isn't back */
 /** @typedef {{tables: Entry[], logs: Entry[], both: string[], left: Left[]}} Collection with what was answered of its files */
 /**
- * A log, or a collection, with what was done to it last; or one that waits for its catalogue. Of a file it has when that was changed,
- * and its own name, if it took another; of one by itself, what isn't here any more, and what was answered.
- * @typedef {Given & import("./work.mjs").Done & {given?: Collection, waits?: string, note?: string,
+ * A log, or a collection, with what was done to it last; or one that waits for its catalogue. Of a file it has by what that is known, when it
+ * was changed, and its own name, if it took another; of one by itself, what isn't here any more, and what was answered.
+ * @typedef {Given & import("./work.mjs").Done & {id: number, given?: Collection, waits?: string, note?: string,
  *   said?: import("./say/say.mjs").Said, changed?: number, was?: string, left?: Left[], both?: string[], made?: string}} Entry
  */
 
 /** Larger files are no logs, and no text for each browser. */
 const MOST_BYTES = 256_000_000, TOO_LARGE = "it has more than 256 MB", NO_FILE = "it can't be read; open it again, or the files in it if it is a folder";
-const NOT_WHOLE = "by its name it is still being downloaded or written: wait for that, or copy it again";
+const OPEN_IT = "Open it again under its name, or leave it out.", NOT_WHOLE = "by its name it is still being downloaded or written: wait for that, or copy it again";
 /** What no name of a log has. */
 const CONTROL = /[\0-\x1F\x7F]/g, NO_TEXTS = "Leave out what doesn't belong here; save a spreadsheet as CSV; unpack what is packed (ZIP, gz).";
 /** Of how many logs it is said each that they count by other names. */
@@ -35,7 +35,7 @@ export const isUnanswered = ({ told, collection, error, waits }) => !told && !co
  * Without its text; what was stopped while it was judged has one.
  * @param {Entry} entry
  */
-export const isLacking = ({ error, text }) => error && (error !== STOPPED || !text.length);
+const isLacking = ({ error, text }) => error && (error !== STOPPED || !text.length);
 
 /**
  * A file that can't be read, as a folder, or not to its end, has no answer.
@@ -45,7 +45,7 @@ export const isLacking = ({ error, text }) => error && (error !== STOPPED || !te
  * @returns {Promise<Entry>}
  */
 export async function read(file, signal, made) {
-  const entry = { name: file.name.replace(CONTROL, "?"), text: new Uint8Array(), changed: file.lastModified, made };
+  const entry = { id: Math.random(), name: file.name.replace(CONTROL, "?"), text: new Uint8Array(), changed: file.lastModified, made };
   if (UNFINISHED.test(entry.name)) return { ...entry, error: NOT_WHOLE };
   if (file.size > MOST_BYTES) return { ...entry, error: TOO_LARGE };
   try {
@@ -75,20 +75,6 @@ const stemsOf = ({ name, was = name }) => [bareOf(name), bareOf(was)];
 export const filesOf = (entries) => entries.flatMap((it) => it.given ? [...it.given.tables, ...it.given.logs] : it);
 
 /**
- * What was here before something, beside which what is here is remembered, as if it was closed. The example is no count.
- * @param {Entry[]} entries
- * @param {Entry[]} here
- * @returns {Entry[]}
- */
-export function backTo(entries, here) {
-  const leftOf = (/** @type {Entry[]} */ [it]) => (it?.given ?? it)?.left ?? [], files = filesOf(here);
-  const known = new Set([...filesOf(entries), ...leftOf(entries).flatMap(({ file }) => file ?? [])].map(({ text }) => text));
-  const away = closedWith(leftOf(here), files[0]?.made === EXAMPLE ? [] : files, here[0]?.collection).filter(({ file }) => file && !known.has(file.text));
-  return !away.length ? entries : entries.map((it) => it.given ? collected({ ...it.given, left: [...it.given.left, ...away] }, it.note)
-    : { ...it, told: undefined, said: undefined, left: [...it.left ?? [], ...away] });
-}
-
-/**
  * What was opened, as it is judged. Logs join others. Tables, or logs beside a collection that is here, belong to what is here, and what
  * is neither is left out; a catalogue with its logs is a collection of its own. A log that was pasted belongs to none.
  * @param {Entry[]} taken
@@ -108,12 +94,11 @@ export function gathered(taken, all) {
   const tables = rest.filter(isATable), logs = rest.filter((it) => !isATable(it));
   const isJoining = !isWhole && (earlier || !logs.length) && logs.every(({ made }) => !made), isLoose = !tables.length && !(isJoining && earlier);
   const what = earlier ? `${first.name}, ${count(before.length, "log")}` : firstOf(before.map(({ name }) => name), "and", MOST_LISTED);
-  const isClosed = first && !isJoining && (earlier || !isLoose), closed = { name: `What was here (${what})`, how: "closed", id: 0 };
-  const over = isClosed ? [...closedWith(past, filesOf(entries), first.collection), ...earlier ? [] : [closed]] : past, note = isClosed ? `${wasEach([closed])[0]} ` : "";
+  const isClosed = first && !isJoining && (earlier || !isLoose), closed = { name: `What was here (${what})`, how: "closed" };
+  const over = isClosed ? earlier ? [] : [closed] : past, note = isClosed ? `${wasEach([closed])[0]} ` : "";
   if (isLoose) {
-    const gone = isClosed ? [] : sameAs(entries, logs), words = note || replacing(gone, logs), away = [...over, ...leftAs(gone)];
-    return [...isClosed ? [] : entries.filter((it) => !gone.includes(it)), ...logs.map((log) => ({ ...log, note: words.trimEnd() }))]
-      .map((it) => ({ ...it, ...gone.length ? { told: undefined, said: undefined } : {}, left: away }));
+    const gone = isClosed ? [] : sameAs(entries, logs), words = note || replacing(gone, logs);
+    return [...isClosed ? [] : entries.filter((it) => !gone.includes(it)), ...logs.map((log) => ({ ...log, note: words.trimEnd() }))].map((it) => ({ ...it, left: over }));
   }
   const others = isJoining && !earlier ? entries : [], [unnamed, strange] = [others.filter(({ made }) => made), others.filter(isStrange)];
   const more = [...left, ...leftAs(unnamed, "left out: what is pasted has no name"), ...leftAs(strange, `left out: ${NO_LOG}`)];
@@ -121,6 +106,13 @@ export function gathered(taken, all) {
   const here = isJoining && earlier || { tables: [], both, logs: kept }, is = taken[0].made === EXAMPLE ? [IS_EXAMPLE] : [];
   return [joined({ ...here, left: [...over, ...more] }, tables, logs, [note, ...wasEach(more), ...is].join(" "), first)];
 }
+
+/**
+ * What is said of files that leave.
+ * @param {Entry[]} list
+ * @param {string | ((file: Entry) => string)} how
+ */
+const leftAs = (list, how) => list.map((file) => /** @type {Left} */ ({ name: file.was ?? file.name, how: typeof how === "string" ? how : how(file), changed: file.changed }));
 
 /**
  * What became of files.
@@ -133,7 +125,7 @@ const was = (list, how) => list.length ? `${namesOf(list)} ${list.length > 1 ? "
  * What became of files, each with how.
  * @param {Left[]} left
  */
-const wasEach = (left) => [...grouped(left.filter(({ how }) => how), ({ how }) => how)].map(([how, its]) => printable(was(its, how).trimEnd()));
+const wasEach = (left) => [...grouped(left, ({ how }) => how)].map(([how, its]) => printable(was(its, how).trimEnd()));
 
 /**
  * What became of logs that others replace.
@@ -166,9 +158,9 @@ function joined(here, tables, logs, note, first) {
   const said = (old ? `${namesOf([old])}${had} was replaced by ${namesOf(tables.filter(isCatalogue))}. ` : "") +
     was(gone.filter(isPlaces), `replaced by ${namesOf(tables.filter(isPlaces))}`) + (note.trim() && `${note.trim()} `) +
     (replacing(replaced, logs) || (more.length ? `${namesOf(more)} joined the logs that were here.` : ""));
-  const opened = [...logs, ...tables], isBack = (/** @type {Left} */ one) => opened.some((it) => it.name === one.name && (it.changed ?? 0) >= (one.file?.changed ?? 0));
+  const opened = [...logs, ...tables], isBack = (/** @type {Left} */ one) => opened.some((it) => it.name === one.name && (it.changed ?? 0) >= (one.changed ?? 0));
   return collected({ tables: [...here.tables.filter((table) => !gone.includes(table)), ...tables], logs: [...kept, ...logs], both: globalThis.crypto?.subtle ? here.both : [],
-    left: [...here.left.map((it) => isBack(it) ? { ...it, how: "" } : it), ...leftAs([...replaced, ...gone])] }, said.trimEnd());
+    left: here.left.filter((it) => !isBack(it)) }, said.trimEnd());
 }
 
 /**
@@ -225,19 +217,18 @@ function asOthers(logs, names) {
 }
 
 /**
- * A collection with what is known of its files.
- * @param {CollectionObject} object
- * @param {Collection} given
- */
-export const withFiles = (object, given) => putAges(Object.assign(object, { both: given.both,
-  left: [...wasEach(given.left), ...asOthers(given.logs, given.logs.map(({ name }) => name))] }), given);
-
-/**
- * A log by itself with what is known of its file.
- * @param {import("./judge/objects.mjs").LogObject} object
+ * Puts to what was judged what is known of its files, beside those that aren't here any more.
  * @param {Entry} entry
+ * @param {Entry[]} away
  */
-export const withFile = (object, entry) => Object.assign(object, { both: entry.both }, putAge(object, entry));
+export function annotate(entry, away) {
+  const { given, collection, told } = entry;
+  if (told) putAge(Object.assign(told.object, { both: entry.both }), entry, away);
+  if (!collection || !given) return;
+  const left = [...wasEach(given.left), ...asOthers(given.logs, given.logs.map(({ name }) => name))];
+  // what was summed up before isn't so any more
+  putAges(entry.collection = { ...collection, both: given.both, left }, given, away);
+}
 
 /**
  * A collection that is judged, or waits for its catalogue. Without one of its files nothing is said of it, nor beside one that is no text.
@@ -247,9 +238,9 @@ export const withFile = (object, entry) => Object.assign(object, { both: entry.b
  */
 export function collected(given, note) {
   const { tables, logs } = given, catalogue = tables.find(isCatalogue), lacking = [...logs, ...tables].filter(isLacking);
-  const entry = { name: (catalogue ?? tables[0]).name, text: new Uint8Array(), given, note };
+  const entry = { id: 0, name: (catalogue ?? tables[0]).name, text: new Uint8Array(), given, note };
   const names = [...tables, ...logs].filter(isStrange).map((it) => it.name), [name] = names, are = names[1] ? "are no tables or logs" : "";
   if (name) return { ...entry, name, error: `${listing(names)} ${are || "is no table or log"}`, cure: [NO_TEXTS], files: names };
-  if (lacking.length) return { ...entry, error: lacking.map(({ name, error }) => `${name}: ${error}`).join("; ") };
+  if (lacking.length) return { ...entry, error: lacking.map(({ name, error }) => `${name}: ${error}`).join("; "), cure: [OPEN_IT], files: lacking.map((it) => it.name) };
   return catalogue ? entry : { ...entry, waits: NO_CATALOGUE };
 }

@@ -3,7 +3,8 @@ import { at } from "./draw/elements.mjs";
 import { Pane } from "./draw/pane.mjs";
 import { unfold, unfoldOnPaper } from "./draw/printing.mjs";
 import { isSpreadsheet, kindOf, startOf, stemOf } from "./judge/files.mjs";
-import { answered, backTo, counted, EXAMPLE, filesOf, gathered, isUnanswered, PASTED, read, withFile, withFiles, without } from "./opened.mjs";
+import { awayOf } from "./left.mjs";
+import { annotate, answered, counted, EXAMPLE, filesOf, gathered, isUnanswered, PASTED, read, without } from "./opened.mjs";
 import { bytesOf, unpacked } from "./packed.mjs";
 import { pageOf, save, withObjects } from "./saving.mjs";
 import { isForeign } from "./say/refused.mjs";
@@ -22,14 +23,15 @@ const field = /** @type {HTMLTextAreaElement} */ (at("text")), files = /** @type
 const stop = at("stop"), status = at("status"), saves = at("save"), back = at("back"), close = at("close"), beside = at("beside"), pane = new Pane(field, shown, PASTE);
 
 /**
- * All that changes: what is here, and which of it is shown, none of several until one is pressed; what was here before each drop, paste
- * or leave; what is opened after all that was opened before it, and until it is read, the last of these, of which nothing is known yet;
- * what ends the reading; when it is said what is waited for, and the answers to several logs are drawn next; and whether a button was
- * pressed that is gone when it is done: then the heading gets the focus.
+ * All that changes: what is here, and which of it is shown, none of several until one is pressed; all files that were here since the page
+ * was empty, and which of them aren't any more; what was here before each drop, paste or leave; what is opened after all that was opened
+ * before it, and until it is read, the last of these, of which nothing is known yet; what ends the reading; when it is said what is waited
+ * for, and the answers to several logs are drawn next; and whether a button was pressed that is gone when it is done: then the heading
+ * gets the focus.
  */
-const now = { entries: /** @type {Entry[]} */ ([]), current: 0, past: /** @type {{entries: Entry[], current: number}[]} */ ([]),
-  opening: Promise.resolve(), pending: /** @type {Entry | undefined} */ (undefined), stopping: new AbortController(),
-  patience: 0, drawing: 0, isPressed: false };
+const now = { entries: /** @type {Entry[]} */ ([]), current: 0, seen: /** @type {Entry[]} */ ([]), away: /** @type {Entry[]} */ ([]),
+  past: /** @type {{entries: Entry[], current: number, seen: Entry[]}[]} */ ([]), opening: Promise.resolve(),
+  pending: /** @type {Entry | undefined} */ (undefined), stopping: new AbortController(), patience: 0, drawing: 0, isPressed: false };
 
 /**
  * The worker's script, and compressed and in base64 the library as WebAssembly and the page that is saved. They stand within this script,
@@ -45,9 +47,8 @@ async function ask(entry) {
   wait();
   const { given, name, text, changed } = entry;
   const done = await work.ask(given ? { files: filesOf([entry]).map((file) => ({ name: file.name, text: file.text })) } : { name, text, changed });
-  if (done.collection && given) withFiles(done.collection, given);
-  if (done.told) withFile(done.told.object, entry);
   Object.assign(entry, done);
+  annotate(entry, now.away);
   if (!now.pending && !now.entries.some(isUnanswered)) quiet();
   // the more there are, the less often their list is drawn
   if (entry === now.entries[now.current]) draw();
@@ -119,19 +120,23 @@ function take(taken, which = taken.length > 1 ? -1 : 0) {
   if (work.isBusy) work.stop();
   if (!taken.length) begin();
   // what was asked before may still have another answer: that it was stopped
-  now.entries = taken.map((entry) => ({ ...entry }));
+  now.entries = taken.map((entry) => ({ ...entry, said: undefined }));
   now.current = which;
+  now.away = awayOf(now.seen, filesOf(now.entries));
+  now.entries.forEach((it) => annotate(it, now.away));
   now.entries.filter(isUnanswered).forEach(ask);
   edit();
   draw();
 }
 
 /** Keeps what is here, so that one can go back to it. */
-const keep = () => now.past.push({ entries: [...now.entries], current: now.current });
+const keep = () => now.past.push({ entries: [...now.entries], current: now.current, seen: now.seen });
 
-back.addEventListener("click", () => now.past.splice(-1).forEach(({ entries, current }) =>
-  take(backTo(entries, now.entries).map((entry) => entry.error === STOPPED ? { ...entry, error: undefined } : entry), current)));
-close.addEventListener("click", () => { keep(); take([]); });
+back.addEventListener("click", () => now.past.splice(-1).forEach(({ entries, current, seen }) => {
+  now.seen = [...new Set([...seen, ...now.seen])];
+  take(entries.map((entry) => entry.error === STOPPED ? { ...entry, error: undefined } : entry), current);
+}));
+close.addEventListener("click", () => { keep(); now.seen = []; take([]); });
 
 /**
  * What is told of a log, with its text, also if something else is opened meanwhile, which stops what is judged.
@@ -171,7 +176,7 @@ function open(chosen, made) {
   const all = [...chosen], reading = Promise.all(all.map((file) => read(file, now.stopping.signal, made)));
   if (!all.length) return;
   /** @type {Entry} */
-  const mine = now.pending = { name: all.length === 1 ? all[0].name : count(all.length, "file"), text: new Uint8Array() };
+  const mine = now.pending = { id: 0, name: all.length === 1 ? all[0].name : count(all.length, "file"), text: new Uint8Array() };
   wait();
   draw();
   now.opening = now.opening.then(async () => {
@@ -180,6 +185,7 @@ function open(chosen, made) {
     if (!now.pending) quiet();
     const made = gathered(taken, now.entries);
     if (now.entries.length) keep();
+    if (taken[0].made !== EXAMPLE) now.seen = [...now.seen, ...taken];
     take(made, made.length < 2 ? 0 : taken.length > 1 ? -1 : made.length - 1);
   }).catch(({ message }) => take([{ ...mine, error: message }]));
 }
@@ -188,9 +194,9 @@ function open(chosen, made) {
 const edit = (entry = now.entries[now.current]) => pane.put(entry && !isSpreadsheet(startOf(entry)) ? entry.text : new Uint8Array());
 
 saves.addEventListener("click", async () => {
-  const log = now.entries[now.current], { collection } = log, fold = unfold(), text = shown.innerText, { title } = document;
+  const log = now.entries[now.current], { collection } = log, fold = unfold(), text = shown.innerText, { title } = document, { away } = now;
   fold();
-  const object = collection ? await withObjects(collection, openerOf(log)) : await whole(log).then((told) => told && withFile(told.object, log));
+  const object = collection ? await withObjects(collection, openerOf(log)) : await whole(log).then((told) => (annotate({ ...log, told }, away), told?.object));
   const saved = Date.now(), on = new Date(saved).toLocaleString("sv", { dateStyle: "short", timeStyle: "short" }).replace(":", "");
   if (object) save(pageOf(new TextDecoder().decode(await unpacked(bytesOf(RECORD))), { ...object, saved }, title, text), `${stemOf(log.name)} ${on}.html`);
   else status.textContent = NOT_SAVED;

@@ -3,7 +3,7 @@ import { collectionView } from "./draw/collection.mjs";
 import { at, button, el } from "./draw/elements.mjs";
 import { banner, notes, signed, view } from "./draw/view.mjs";
 import { isStrange, kindOf } from "./judge/files.mjs";
-import { isLacking, isUnanswered } from "./opened.mjs";
+import { isUnanswered } from "./opened.mjs";
 import { leaveOut } from "./say/copies.mjs";
 import { isForeign } from "./say/refused.mjs";
 import { headlineOfEach, say } from "./say/say.mjs";
@@ -13,7 +13,7 @@ import { count, dated, printable, titled } from "./say/words.mjs";
 
 const PRESS = "Press one to see it. For one answer about all of them, open them together with one catalogue (CSV).";
 /** How much is said of what is wrong. */
-const MOST_SAID = 2000, OPEN_AGAIN = "Open all files again, together: the logs and the catalogue.", THE_REST = "All other files are still here.";
+const MOST_SAID = 2000, THE_REST = "All other files are still here.";
 
 const several = at("several"), each = at("each"), list = at("logs");
 export const shown = at("told");
@@ -135,7 +135,7 @@ const unanswered = (name, error) => printable((error.startsWith(name) ? `${error
  * What becomes of the logs of a collection that has no answer.
  * @param {Entry[]} logs
  */
-const kept = (logs) => logs.some(isLacking) ? [OPEN_AGAIN] : logs.length
+const kept = (logs) => logs.length
   ? [`${count(logs.length, "log is", "logs are")} still here, to be compared with the next catalogue that you open.`] : [];
 
 /**

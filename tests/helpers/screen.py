@@ -130,6 +130,7 @@ class Screen:
 
     def when(self, selector, words):
         """The same without asking the page again and again."""
+        self.driver.set_script_timeout(WAIT)
         self.driver.execute_async_script(WHEN, selector, words)
 
     @staticmethod

@@ -54,7 +54,6 @@ class Browser:
             options.add_argument(word)
         options.set_capability("goog:loggingPrefs", LOGGED)
         self.driver = webdriver.Chrome(service=Driver("/usr/bin/chromedriver"), options=options)
-        self.driver.set_script_timeout(SECONDS)
 
     def run_module(self, name, *files):
         """What the function `run` of a module of the repository gives of the addresses of files."""
@@ -63,6 +62,7 @@ class Browser:
             threading.Thread(target=server.serve_forever, daemon=True).start()
             self.driver.get(f"http://127.0.0.1:{server.server_port}/tests/wasm/")
             given = [f"/given/{number}" for number in range(len(files))]
+            self.driver.set_script_timeout(SECONDS)
             said = self.driver.execute_async_script(RUN, f"/{name}", given)
             server.shutdown()
         return said

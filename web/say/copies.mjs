@@ -121,7 +121,7 @@ export function interchanged({ logs, items }) {
     if (home === null || (isBoth ? other < at : certain === 1)) return [];
     const key = `${numbers.map((it) => olderOne(logs[it])).join()} is of ${place}`;
     const swap = /** @type {Button[]} */ (isBoth ? [["Count each as the other", { "data-as": logs[other].name, "data-kept": name }]] : []);
-    return [{ isFirst: true, mayNotCount: true, logs: [name], numbers,
+    return [{ isFirst: true, mayNotCount: true, logs: numbers.map((it) => logs[it].name), numbers,
       short: isBoth ? `say whether the logs of ${one} and ${where} were interchanged` : `say whether the log of ${one} is that of ${where}`,
       words: `${certain === 1 ? "The one tag" : `All ${count(certain, "tag")}`} in the log of ${one} ${certain === 1 ? "belongs" : "belong"} to ${where}${isBoth ? `, and all in its log to ${one}` : ""}.`,
       cure: isBoth ? "Were the two interchanged?" : `If it is the log of ${where}, call it so, and open all anew.`,
