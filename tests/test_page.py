@@ -82,7 +82,7 @@ Worker.prototype.postMessage = function (it) {
 # The rows of tables of items: shelves, of which one alone stands at the head, and items.
 ROWS = ".items :is(thead tr + tr, tbody tr)"
 #: What is said of logs that are green.
-WHOLE = "Proved complete, with nothing left open"
+WHOLE = "Complete, as far as a log can show"
 #: What is said of a reader that may have gone deaf.
 IF_HEARD = "The one listed tag is here, and no other, if the reader heard to the end."
 MOVED = "1 item in the wrong place ({}, on Returns, belongs to A); nothing answered in A."
@@ -753,7 +753,7 @@ def test_several_logs(page):
     page.until("#logs", "No tag answered")
     page.until("#logs", "can't be used")
     # no tag was heard after the last silence, so the first isn't green
-    said = "3 logs, each with its own answer. Proved complete, with nothing left open: 0 of 3."
+    said = "3 logs, each with its own answer. Complete, as far as a log can show: 0 of 3."
     page.until("h1", said)
     assert (page.texts("h1"), page.driver.title) == ([said], said)
     assert (page.texts(".banner"), page.said()) == ([], "")
@@ -972,7 +972,7 @@ def test_an_item_of_a_catalogue_with_many_columns_is_read_in_lines(page):
     columns = [f"column {number}" for number in range(20)]
     page.drop(**{"books.csv": f"uid,title,{','.join(columns)},place\nE0040100000000A1,Emma,"
                  f"{','.join(['available'] * 20)},A\n".encode(), "A.log": log_of("I1 S")})
-    page.until("h1", "1 item missing (Emma · available, of A); nothing answered in A.")
+    page.until("h1", "1 item may be missing (Emma · available, of A); nothing answered in A.")
     for kind, width in ("print", 780), ("", 1000):
         page.media(kind)
         size = {"width": width, "height": 900, "deviceScaleFactor": 1, "mobile": False}
@@ -994,7 +994,7 @@ def test_a_long_table_of_items_stands_in_one_column_on_paper(page):
     page.drop(**{"books.csv": b"uid,title,place\n" + b"".join(
         b"%016X,Walden,%d\n" % (uid, uid % 2) for uid in uids),
                  "0.log": log_of("I1 S"), "1.log": log_of("I1 S")})
-    page.until("h1", "40 items missing; nothing answered in 0 and 1.")
+    page.until("h1", "40 items may be missing; nothing answered in 0 and 1.")
     page.media("print")
     assert page.run("return getComputedStyle(document.querySelector('details:has(> .items)'))"
                     ".columnWidth") == "auto"
@@ -1125,7 +1125,7 @@ def test_the_example_leaves_with_the_first_file(page):
     page.press("#example")
     page.until(".note", "What was here (books.csv, 1 log) was closed. This is an example: twelve")
     assert "books.csv" not in page.said().partition("closed.")[2]
-    page.until(".banner", "1 item missing (Walden, of A)")
+    page.until(".banner", "1 item missing if the reader of A heard to the end (Walden, of A)")
 
 
 @pytest.mark.parametrize("is_stopped", [False, True])
@@ -1315,7 +1315,7 @@ def test_the_text_of_a_page_that_was_saved_has_what_is_folded(page, tmp_path):
     """As a long list of items is, which stays so on the screen."""
     uids = [f"E004{number:012X}" for number in range(300)]
     page.drop(**{"books.csv": "\n".join(["uid", *uids]).encode(), "A.log": log_of("I1 S")})
-    page.until("h1", "300 items missing; nothing answered in A.log.")
+    page.until("h1", "300 items may be missing; nothing answered in A.log.")
     _, plain = drawn_in(saved(page, tmp_path / "saved").read_text())
     assert [uid for uid in uids if uid not in plain] == []
     assert uids[0] not in page.said()

@@ -622,8 +622,8 @@ def test_the_example(page):
     files = {it.name: it.read_bytes() for it in sorted((TOP / "examples/collection").iterdir())}
     drop(page, files)
     assert page.texts("#told h1") == [
-        "1 item missing (Walden, of A), 1 in the wrong place (The Time Machine, on A, belongs to "
-        "B) and 1 not known yet; count C again."]
+        "1 item missing if the reader of A heard to the end (Walden, of A), 1 in the wrong place "
+        "(The Time Machine, on A, belongs to B) and 1 not known yet; count C again."]
     assert page.texts(".logs summary")[0] == (
         "C (shelf-c.log): 3 tags; not finished")
     # replies may be hidden only in the log that is to be counted again
@@ -688,13 +688,13 @@ def test_a_log_joins_a_collection_or_replaces_that_of_its_place(page):
     drop(page, {"books.csv": BOTH, "A.log": field(UID_A)})
     drop(page, {"B.log": field()})
     assert page.texts(".note") == ["B.log joined the logs that were here."]
-    assert page.texts("#told h1") == ["1 item missing (Walden, of B); nothing answered in B."]
+    assert page.texts("#told h1") == ["1 item may be missing (Walden, of B); nothing answered in B."]
     assert page.run(TOLD) == f"{page.texts('.note')[0]} {page.texts('#told h1')[0]}"
     drop(page, {"B.txt": field(UID_B)})
     assert page.texts(".note") == ["B.log was replaced by what you opened under the same name."]
     assert look(page) == "yes"
     page.press("#back")
-    page.until("h1", "1 item missing (Walden, of B); nothing answered in B.")
+    page.until("h1", "1 item may be missing (Walden, of B); nothing answered in B.")
     assert page.run(FOCUS) == page.texts("h1")[0]
     page.press("#back")
     page.until("h1", "1 item not counted; no log of B.")
@@ -713,7 +713,7 @@ def test_a_collection_of_older_files_is_asked_about(page):
     """That of last week, dropped whole over that of today: one answer is enough for all its files,
     and stands on the page from then on."""
     drop(page, {**COMPLETE, "B.log": field()}, {name: NOON for name in COMPLETE})
-    page.until("h1", "1 item missing")
+    page.until("h1", "1 item may be missing")
     older = {"books.csv": BOTH.replace(b"title", b"name"), "A.log": field(UID_A, asks=2),
              "B.log": field(UID_B)}
     drop(page, older, {name: NOON - HOUR for name in older})
@@ -734,7 +734,7 @@ def test_a_collection_of_older_files_is_asked_about(page):
 
 
 @pytest.mark.parametrize(("press", "headline"), [
-    (1, "1 item missing (Emma, of A); nothing answered in A."),
+    (1, "1 item may be missing (Emma, of A); nothing answered in A."),
     (0, "All 2 expected items are here, and no others.")])
 def test_it_is_asked_which_of_two_counts(page, press, headline):
     """Until that is said, both are here, and nothing is green. Then the one that counts is of the
@@ -765,7 +765,7 @@ document.querySelector("h1").dispatchEvent(new ClipboardEvent("paste", how));
 def test_a_catalogue_is_not_replaced_without_a_word(page, how):
     """A smaller one may be complete where the one before wasn't."""
     drop(page, {**COMPLETE, "B.log": field()})
-    page.until("h1", "1 item missing")
+    page.until("h1", "1 item may be missing")
     smaller = books((UID_A, ",A"))
     if how == "pasted":
         page.run(PASTE, smaller.decode())
@@ -1022,7 +1022,7 @@ def test_a_text_of_surveys_stands_in_place_of_its_logs(page, program, tmp_path):
 def test_an_older_file_that_replaces_a_newer_one_is_not_green(page, tmp_path):
     """It is said, and asked; the date is that of the file, which may be one of a copy."""
     drop(page, {**COMPLETE, "B.log": field()}, {name: NOON for name in COMPLETE})
-    page.until("h1", "1 item missing")
+    page.until("h1", "1 item may be missing")
     drop(page, {"B.log": field(UID_B)}, {"B.log": NOON - HOUR})
     assert page.texts(".note") == ["B.log was replaced by an older file of the same name."]
     assert page.texts("h1") == ["All 2 expected items are in some log; but the log of B is older "
@@ -1066,7 +1066,7 @@ def test_an_answer_is_about_two_files(page):
     page.press(".doubts button", 1)
     page.until(".banner.yes h1", "All 2 expected items are here, and no others.")
     drop(page, {"B.log": field()}, {"B.log": NOON})
-    page.until("h1", "1 item missing")
+    page.until("h1", "1 item may be missing")
     drop(page, {"B.log": field(UID_B)}, {"B.log": NOON - DAY - HOUR})
     assert page.texts("h1") == IS_OLDER
 
@@ -1382,7 +1382,7 @@ def test_who_opens_the_newer_file_once_more_takes_the_answer_back(page):
         pressed(page, "The older one counts")
         until_green(page)
         drop(page, {"B.log": field(*[UID_B][number:])}, {"B.log": NOON})
-    page.until("h1", "1 item missing (Walden, of B); nothing answered in B.")
+    page.until("h1", "1 item may be missing (Walden, of B); nothing answered in B.")
 
 
 @pytest.mark.parametrize("is_at_once", [True, False])
@@ -1900,7 +1900,7 @@ def test_each_row_on_paper_names_its_shelf(page):
     rows = [(0xE004010000000000 + number, f",{'AB'[number % 2]}") for number in range(60)]
     table = "\n".join(["uid,place", *(f"{uid:016X}{more}" for uid, more in rows), ""]).encode()
     drop(page, {"books.csv": table, "A.log": field(), "B.log": field()})
-    page.until("h1", "60 items missing")
+    page.until("h1", "60 items may be missing")
     assert page.run("return document.querySelector('.items td.paper').checkVisibility()") is False
     page.media("print")
     page.run(PRINTS)

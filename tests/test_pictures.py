@@ -369,8 +369,8 @@ def reconciled(run, browser, tmp_path):
 def test_page_of_a_collection(reconciled):
     page = reconciled(*SHELVES)
     assert page.texts("h1") == [
-        "1 item missing (Walden, of A), 1 in the wrong place (The Time Machine, on A, belongs to "
-        "B) and 1 not known yet; count C again."]
+        "1 item missing if the reader of A heard to the end (Walden, of A), 1 in the wrong place "
+        "(The Time Machine, on A, belongs to B) and 1 not known yet; count C again."]
     assert page.texts(".lights dd") == ["2 of 3 logs", "9 of 12 items", "the answer may be wrong"]
     groups = ["Count again (1 log)", "At the shelves (2)", "Not known yet (1)",
               "Here (9 items)", "Searched to the end (2 logs)", "What this takes for granted (10)"]

@@ -102,9 +102,9 @@ function put(open, away) {
   const byKey = grouped(open, keyOf);
   for (const { into, file: { changed } } of open) Object.assign(into, { changed, newer: undefined, than: undefined, beside: undefined });
   for (const gone of away) {
-    const { changed: newer = 0, name: than, id } = gone, older = open.filter(({ file }) => (file.changed ?? Infinity) < newer && !isSame(file, gone));
-    const beside = new Set(older.length ? besideOf(gone, open, byKey) : []);
-    for (const { into } of older.filter((it) => beside.has(it))) Object.assign(into, { beside: (into.beside ?? 0) + id }, newer > (into.newer ?? -Infinity) && { newer, than });
+    const { changed: newer = 0, name: than, id } = gone, isOlder = (/** @type {Opened} */ { file }) => (file.changed ?? Infinity) < newer && !isSame(file, gone);
+    for (const { into } of open.some(isOlder) ? new Set(besideOf(gone, open, byKey).filter(isOlder)) : [])
+      Object.assign(into, { beside: (into.beside ?? 0) + id }, newer > (into.newer ?? -Infinity) && { newer, than });
   }
 }
 

@@ -1,7 +1,7 @@
 /** Shows what is here: several logs, each with what it says, and what is told of one. */
 import { collectionView } from "./draw/collection.mjs";
 import { at, button, el } from "./draw/elements.mjs";
-import { banner, notes, signed, view } from "./draw/view.mjs";
+import { banner, notes, signed, takenForGranted, view } from "./draw/view.mjs";
 import { isStrange, kindOf } from "./judge/files.mjs";
 import { isUnanswered } from "./opened.mjs";
 import { leaveOut } from "./say/copies.mjs";
@@ -63,7 +63,8 @@ export function focusOnHeading() {
 function nodesOf(entry, opener, canLeave) {
   const { told, collection, error, cure = [], waits, given, name, files, note = "" } = entry, logs = given && (waits || error) ? given.logs.filter((it) => kindOf(it) !== "other") : [];
   // beside what is no table, or a table too many, the next catalogue wouldn't help
-  const words = [...cure, ...files && (files.length > 1 || !given?.tables.some((it) => files.includes(it.name))) ? [THE_REST] : kept(logs)];
+  const words = [...cure, ...files && (files.length > 1 || !given?.tables.some((it) => files.includes(it.name))) ? [THE_REST]
+    : logs.length ? [`${count(logs.length, "log is", "logs are")} still here, to be compared with the next catalogue that you open.`] : []];
   const said = [...words.length ? [el("h2", {}, "What to do"), el("ul", { class: "steps" }, words.map((it) => el("li", {}, it)))] : [],
     ...given && files ? leavingOut(given, files) : []];
   // what stands below isn't said twice
@@ -99,16 +100,17 @@ export function overview(entries, current) {
   if (isOne) return;
   list.querySelectorAll("button").forEach((button, index) => label(button, entries[index], index === current));
   const tolds = entries.flatMap(({ name, told, changed }) => told ? { name, told, changed } : []), foreign = tolds.filter(({ told }) => isForeign(told)).length;
-  const isCounted = !entries.some(isUnanswered) && tolds.some(({ told }) => told.counts.listed);
-  const words = headlineOfEach(isCounted ? entries.map(({ said }) => said?.look) : [], many - foreign, foreign);
+  const left = entries.filter(isUnanswered).length, isCounted = tolds.some(({ told }) => told.counts.listed);
+  const words = left ? `Judging ${count(many, "log")} ..` : headlineOfEach(isCounted ? entries.map(({ said }) => said?.look) : [], many - foreign, foreign);
   const above = current < 0 ? notes([...new Set(entries.flatMap(({ note }) => note ? printable(note) : []))]) : [];
   each.append(...above, el(current < 0 ? "h1" : "p", {}, words), el("p", { class: "hint" }, PRESS));
   if (current >= 0) return;
   const sums = tolds.map(({ name, changed, told: { object: { answer, sha256 } } }) =>
     el("p", {}, `${printable(name)}: ${answer}${changed ? ` · of ${dated(changed)}` : ""} · SHA-256 `, el("code", {}, sha256)));
   const version = tolds.length ? `, by vicinity ${tolds[0].told.object.version}` : "", all = [words, ...entries.flatMap(({ said }) => said?.answered ?? [])];
-  shown.replaceChildren(el("footer", { class: "record" }, ...sums, ...signed(all, `${count(many, "file")}${version}`)));
-  headed(words, !entries.some(isUnanswered));
+  const under = left ? [el("p", { class: "asked paper" }, `This is no result yet: ${count(left, "log is", "logs are")} still being judged.`)] : signed(all, `${count(many, "file")}${version}`);
+  shown.replaceChildren(...tolds.length ? [takenForGranted(tolds.map(({ told }) => told))] : [], el("footer", { class: "record" }, ...sums, ...under));
+  headed(words, !left);
 }
 
 /**
@@ -130,13 +132,6 @@ function label(button, entry, isPressed) {
  * @param {string} error
  */
 const unanswered = (name, error) => printable((error.startsWith(name) ? `${error}.` : `${name}: no answer (${error}).`).slice(0, MOST_SAID));
-
-/**
- * What becomes of the logs of a collection that has no answer.
- * @param {Entry[]} logs
- */
-const kept = (logs) => logs.length
-  ? [`${count(logs.length, "log is", "logs are")} still here, to be compared with the next catalogue that you open.`] : [];
 
 /**
  * Says what is shown, in the title and to whoever doesn't see it: nothing of what is pale, and what is noted once.

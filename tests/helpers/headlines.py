@@ -93,7 +93,7 @@ def log_says_too_much(said, listed):
 
 
 EACH = re.compile(rf"{NUMBER} logs, each with its own answer\."
-                  rf"(?: Proved complete, with nothing left open: {NUMBER} of {NUMBER}\.)?")
+                  rf"(?: Complete, as far as a log can show: {NUMBER} of {NUMBER}\.)?")
 
 
 def each_says_too_much(said, listed):

@@ -28,7 +28,7 @@ const NOT_EXPECTED = "What isn't in the catalogue: find it by reading the items 
 const IS_BACK = "What is back was away, as the catalogue says: record that it is here.";
 const ELSEWHERE = "The logs of their shelves rule these out. Count again first, as said above; then look there: a tag may be covered.";
 const NO_TAG = "These rows of the catalogue have no UID, so nothing is known of them: look for them by eye.";
-const UNKNOWN_YET = "Whether these are here isn't known until the logs above are counted again.";
+const MAY_BE = "may be missing: look for it", UNKNOWN_YET = "Whether these are here isn't known until the logs above are counted again.";
 const NOT_COUNTED = "Nothing is known of these, as their places have no log.", IN_FULL = "The whole list is in the page, not on paper.";
 const WAITS = "Open or drop the logs, in any order; each is of the place after which it is named, as A.log of A. A catalogue says what should be here: a list of what was read would always agree.";
 const AGAIN_BROKEN = " If a log contradicts itself again, send it and this page to whoever maintains the reader.";
@@ -44,7 +44,7 @@ const PROVED = "What is said of each item and log is what the library writes of 
  * @returns {Node[]}
  */
 export function collectionView(object, opener = () => null, canLeave = () => false) {
-  const { shelves, doubts, answered, of, elsewhere, others, strays, open, hiding, deaf, isComplete, isUnsettled } = summaryOf(object), said = sayAll(object);
+  const { shelves, doubts, answered, of, lost, elsewhere, others, strays, open, hiding, deaf, isComplete, isUnsettled } = summaryOf(object), said = sayAll(object);
   const { counts, logs, without_log: places } = object, here = of("in place", "there"), home = (/** @type {Item} */ { place }) => printable(place ?? ""), file = printable(object.file);
   const above = [...noResult(isUnsettled, canLeave()), ...notes([...object.left ?? [], ...answered])], asked = doubted("Logs and shelves", doubts, canLeave);
   if (!logs.length) return [...above, banner(said, file), ...asked, el("p", {}, WAITS)];
@@ -56,7 +56,7 @@ export function collectionView(object, opener = () => null, canLeave = () => fal
   const byEye = counts["no tag"] ? [`Look for ${count(counts["no tag"], "item")} by eye, as said below.`] : [];
   const apart = shelves.sorted(hiding), [spread, send] = SENTENCES.steps.oneMore, oneMore = hiding.length ? [spread.replace(",", () => ` ${shelves.fields(apart)},`),
     send.replace("the log", () => `the log${apart.length > 1 ? "s" : ""} of ${shelves.names(apart)}`)] : byEye.length ? [] : deaf.length ? [`Nothing to do at the shelves. Whoever maintains the reader can let it show that it heard to the end ${heard}, as said below.`] : SENTENCES.steps.nothing;
-  const steps = [...byEye, ...object.wanted ? [ASK_MORE] : oneMore].map((it) => el("li", {}, it));
+  const maybe = new Set(lost.maybe), steps = [...byEye, ...object.wanted ? [ASK_MORE] : oneMore].map((it) => el("li", {}, it));
   const first = places.length ? ` that was counted. First count ${firstOf(places.map(printable))}: they may be there` : "";
   const look = (counts.missing ? `Missing items ${logs.length > 1 || first ? `answered on no shelf${first}` : "didn't answer"}. ${LOOK_FOR}` : "") +
     (counts.unexpected ? NOT_EXPECTED : "") + (counts.returned ? IS_BACK : "");
@@ -64,14 +64,14 @@ export function collectionView(object, opener = () => null, canLeave = () => fal
   return [...above, banner(said, `${file} · ${count(logs.length, "log")}${spanOf(logs)}`), ...asked,
     ...(isComplete || object.wanted) && !doubts.length ? [el("h2", {}, "At the shelves"), el("ul", { class: "steps" }, steps)] : [],
     ...isKnown ? conditions : [], ...drawn("Count again", again + (isBroken ? AGAIN_BROKEN : ""), open, true),
-    ...part("At the shelves", todo, doubts.every((it) => !it.numbers), look, [shelves, at, {}, (item) => shelves.toDo(item)]),
+    ...part("At the shelves", todo, doubts.every((it) => !it.numbers), look, [shelves, at, {}, (item) => maybe.has(item) ? MAY_BE : shelves.toDo(item)]),
     ...part("Heard in logs of no place", strays, false, STRAYS, [shelves, at, { "belongs to": home }], false),
     ...part("Not heard on their shelves", elsewhere, true, ELSEWHERE, [shelves, home, mayBe]),
     ...part("Without a tag", of("no tag"), true, NO_TAG, [shelves, home, {}, () => "look for"]),
     ...part("Not counted", of("not counted"), counts["not counted"] <= MOST_LISTED, NOT_COUNTED, [shelves, home], false),
     ...part("Not known yet", others, others.length <= MOST_LISTED, UNKNOWN_YET, [shelves, home, others.every(home) ? {} : mayBe], false),
     ...isKnown ? [] : conditions,...drawn("Ask all once more", ONCE_AGAIN, hiding),
-    ...part("Here", here, false, "", [shelves, home], false, `Here (${count(here.length, "item")})`),
+    ...part("Here", here, false, "", [shelves, home], false, `${isUnsettled ? "Found, if all logs count" : "Here"} (${count(here.length, "item")})`),
     ...drawn("Searched to the end", "", done.filter((it) => !hiding.includes(it))), ...grantedOfAll(object), recordOfAll(object)];
 }
 
@@ -174,8 +174,8 @@ function grantedOfAll(object) {
 function recordOfAll(object) {
   const { counts, items, logs, files, version, answer, file, left = [] } = object, { isUnsettled, answered } = summaryOf(object);
   const states = Object.entries(counts).flatMap(([state, number]) => number ? `${number.toLocaleString("en")} ${state}` : []);
-  const said = [count(items.length, "item"), ...states, count(logs.length, "log")].join("\u00A0· ");
+  const said = [count(items.length, "item"), ...states, count(logs.length, "log")].join("\u00A0· "), ifAll = isUnsettled ? ", if all logs count" : "";
   const sums = files.map((it) => el("p", {}, `${printable(it.file)}${it.changed ? ` of ${dated(it.changed)}` : ""}${it.sha256 ? " · SHA-256 " : ""}`, el("code", {}, it.sha256)));
-  return el("footer", { class: "record" }, el("p", {}, said), el("p", {}, `vicinity ${version}: `, el("code", {}, printable(answer))), ...sums,
+  return el("footer", { class: "record" }, el("p", {}, said, ifAll), el("p", {}, `vicinity ${version}${ifAll}: `, el("code", {}, printable(answer))), ...sums,
     ...isUnsettled ? [] : signed([sayAll(object).headline, ...left, ...answered], printable(file)));
 }

@@ -30,7 +30,7 @@ export function view(told, names = new Map(), isAlone = true, canPress = false) 
   const what = kind === KIND.UNLISTED && !told.counts.listed ? [file] : [file, el("span", { class: "paper" }, " · ", el("code", {}, answer))];
   return [...noResult(said.doubts.length > 0, canPress), ...notes(said.answered), banner(said, what), ...doubted("The file", said.doubts, () => canPress), ...shelf(said),
     ...conditions(told), ...findings(told, names), ...tags(told, names), ...maintainer(told, said, () => [...rounds(told, names), ...conflict(told)]),
-    ...takenForGranted(told), record(told, isAlone, said)];
+    ...told.object.kind === KIND.REFUSED ? [] : [takenForGranted([told])], record(told, isAlone, said)];
 }
 
 /** @param {string[]} all what was done, or answered */
@@ -141,13 +141,13 @@ function tags({ object: { certain, found } }, names) {
 }
 
 /**
- * What an answer about tags takes for granted; open where there is nothing else to do. Of a contradiction it is what didn't hold.
- * @param {Told} told
+ * What answers about tags take for granted; open where there is nothing else to do. Of a contradiction it is what didn't hold.
+ * @param {Told[]} tolds
  */
-function takenForGranted(told) {
-  const { kind, status } = told.object, all = granted(told.conflict ? !told.counts.alone : isApart(told));
-  const title = told.conflict ? "At least one of these didn't hold" : "What this takes for granted";
-  return kind === KIND.REFUSED ? [] : [folded(`${title} (${all.length})`, !status, bullets(all))];
+export function takenForGranted(tolds) {
+  const all = granted(tolds.every((told) => told.conflict ? !told.counts.alone : isApart(told)));
+  const title = tolds.length < 2 && tolds[0].conflict ? "At least one of these didn't hold" : "What this takes for granted";
+  return folded(`${title} (${all.length})`, tolds.every(({ object }) => !object.status), bullets(all));
 }
 
 /**

@@ -142,7 +142,7 @@ export const olderOne = ({ name, changed, beside, sha256, surveys }) => `${name}
  * @returns {Doubt[]}
  */
 export function older(files, both = []) {
-  return [...grouped(files.filter(({ newer }) => newer), (it) => both.includes(olderOne(it))).values()].map((all) => {
+  return [...grouped(files.filter(({ beside }) => beside), (it) => both.includes(olderOne(it))).values()].map((all) => {
     const [{ name, changed, newer, than = name }] = all, isOne = all.length === 1, of = all.flatMap((it) => it.of ?? []);
     const [when, before] = [changed, newer].map((time) => dated(time, dated(changed) === dated(newer)));
     const files = firstOf(all.map((it) => nameOf(it.name)), "and", MOST_LISTED), logs = `the log${of.length > 1 ? "s" : ""} of ${firstOf(of)}`;

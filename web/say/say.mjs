@@ -168,7 +168,7 @@ function headline(told, isAlone) {
  */
 export function headlineOfEach(looks, logs, foreign) {
   const green = looks.filter((look) => look === "yes").length, others = foreign ? ` ${count(foreign, "file isn't a log", "files aren't logs")}.` : "";
-  const how = looks.length && logs ? ` Proved complete, with nothing left open: ${green.toLocaleString("en")} of ${logs.toLocaleString("en")}.` : "";
+  const how = looks.length && logs ? ` Complete, as far as a log can show: ${green.toLocaleString("en")} of ${logs.toLocaleString("en")}.` : "";
   return `${count(logs, "log")}${logs > 1 ? ", each with its own answer" : ""}.${how}${others}`;
 }
 

@@ -56,6 +56,9 @@ export class Shelves {
   }
 
   /** @param {number[]} logs */
+  readers(logs) { return `the reader${logs.length > 1 ? "s" : ""} of ${this.names(logs)}`; }
+
+  /** @param {number[]} logs */
   fields(logs) { return `in the field${logs.length > 1 ? "s" : ""} of ${this.names(logs)}`; }
 
   /**

@@ -12,12 +12,14 @@ import { count, listing } from "./words.mjs";
 /** @typedef {import("../judge/objects.mjs").OneLog} OneLog */
 /** @typedef {import("../judge/objects.mjs").State} State */
 /** @typedef {import("./say.mjs").Light} Light */
+/** @typedef {{known: Item[], maybe: Item[], deaf: number[], hiding: number[]}} Lost what is missing, if the readers of some logs heard to the end; and what may
+ *   be, where each log of its place may not count, has nothing that answered, or replies in some logs that may have hidden others */
 /**
- * What is worked out of an object once: how many items are here, the items by their states, and of those that aren't known which the
- * logs of their own places rule out; by their numbers the logs to count again, and of the others those in whose fields tags could be if
+ * What is worked out of an object once: how many items are here, the items by their states, those that are missing by what they may be in
+ * spite of their logs, and of those that aren't known which the logs of their own places rule out; by their numbers the logs to count again, and of the others those in whose fields tags could be if
  * replies were hidden, and if the reader went deaf; whether anything rests on it, some log may not count, and that is asked.
  * @typedef {{here: number, isComplete: boolean, shelves: Shelves, doubts: import("./copies.mjs").Doubt[], answered: string[], open: number[],
- *   of: (...states: State[]) => Item[], elsewhere: Item[], others: Item[], strays: Item[],
+ *   of: (...states: State[]) => Item[], lost: Lost, elsewhere: Item[], others: Item[], strays: Item[],
  *   hiding: number[], deaf: number[], isResting: boolean, isUnsettled: boolean, isAsked: boolean}} Summary
  */
 
@@ -39,12 +41,29 @@ export const summaryOf = (object) => madeOnce(SUMMARIES, object, () => {
   const elsewhere = unknown.filter((item) => shelves.isElsewhere(item)), not = new Set(elsewhere);
   const those = (/** @type {(log: OneLog) => unknown} */ is) => [...logs.keys()].filter((at) => is(logs[at]));
   const { doubts, answered } = doubtsOf(object, shelves), unsettled = doubts.filter(({ mayNotCount }) => mayNotCount);
+  const lost = lostOf(object, shelves, of("missing"), new Set(doubts.flatMap(({ numbers = [] }) => numbers)));
   return { here: counts["in place"] + counts.there, isComplete: status === 0 && answer.startsWith(KIND.COMPLETE), shelves, doubts, answered,
-    of, elsewhere, others: unknown.filter((item) => !not.has(item)), strays: of("misplaced").filter((item) => shelves.isStray(item)),
+    of, lost, elsewhere, others: unknown.filter((item) => !not.has(item)), strays: of("misplaced").filter((item) => shelves.isStray(item)),
     open: those(isOpen), hiding: those((log) => log.hidden && !isOpen(log)), deaf: those((log) => log.deaf && !isOpen(log)),
     isResting: margin !== undefined || counts.missing > 0 || elsewhere.length > 0,
     isUnsettled: unsettled.length > 0, isAsked: unsettled.some(({ isFirst }) => isFirst) };
 });
+
+/**
+ * @param {CollectionObject} object
+ * @param {Shelves} shelves
+ * @param {Item[]} missing
+ * @param {Set<number>} unsure the logs of which something is asked
+ * @returns {Lost}
+ */
+function lostOf({ logs }, shelves, missing, unsure) {
+  const isWeak = (/** @type {number} */ at) => unsure.has(at) || !logs[at].answers || logs[at].hidden, isDeaf = (/** @type {number} */ at) => isWeak(at) || logs[at].deaf;
+  const all = [...logs.keys()], ofPlace = (/** @type {string | null} */ place) => place === null ? all : shelves.counted.get(place) ?? [];
+  const places = grouped(new Set(missing.map(({ place }) => place)), (place) => ofPlace(place).every(isWeak) ? "maybe" : ofPlace(place).every(isDeaf) ? "ifHeard" : "sure");
+  const weak = new Set(places.get("maybe")), [known, maybe] = [false, true].map((is) => missing.filter(({ place }) => weak.has(place) === is));
+  const of = (/** @type {"ifHeard" | "maybe"} */ kind) => shelves.sorted([...new Set(places.get(kind)?.flatMap(ofPlace))]);
+  return { known, maybe, deaf: of("ifHeard").filter((at) => logs[at].deaf), hiding: of("maybe").filter((at) => logs[at].hidden) };
+}
 
 /**
  * As of one log, what is complete isn't green without a tag that was expected, nor where others may
@@ -73,7 +92,7 @@ export function headlineOf(object) {
   const kind = without ? "tagged item" : "expected item", all = here === 1 ? `The one ${kind} is` : `All ${count(here, kind)} are`;
   if (isUnsettled) return `${all} in some log; but ${listing(but)}.`;
   const others = noOthers(here, hiding.length > 0, deaf.length > 0).replace("may be,", () => `may be ${shelves.fields(shelves.sorted(hiding))},`)
-    .replace("the reader", () => `the reader${deaf.length > 1 ? "s" : ""} of ${shelves.names(shelves.sorted(deaf))}`);
+    .replace("the reader", () => shelves.readers(shelves.sorted(deaf)));
   return `${here ? `${all} here${others}` : NOTHING}${but.length ? ` But ${listing(but)}.` : ""}`;
 }
 
@@ -82,12 +101,11 @@ export function headlineOf(object) {
  * @param {CollectionObject} object
  */
 function lacking(object) {
-  const { here, shelves, doubts, of, elsewhere, others, strays, open, isAsked, isUnsettled } = summaryOf(object), { logs } = object;
-  const again = shelves.sorted(open), unsure = new Set(doubts.flatMap(({ numbers = [] }) => numbers));
+  const { here, shelves, doubts, of, lost, elsewhere, others, strays, open, isAsked, isUnsettled } = summaryOf(object), { logs } = object;
+  const again = shelves.sorted(open), unsure = new Set(doubts.flatMap(({ numbers = [] }) => numbers)), heard = lost.deaf.length ? ` if ${shelves.readers(lost.deaf)} heard to the end` : "";
   const strayed = `heard in ${new Set(strays.flatMap((item) => item.certain_in)).size > 1 ? "logs" : "a log"} of no place`;
-  const lost = grouped(of("missing"), ({ place }) => place !== null && !!shelves.counted.get(place)?.every((at) => unsure.has(at)));
   const moved = grouped(of("misplaced").filter((it) => !shelves.isStray(it)), (it) => it.certain_in.every((at) => unsure.has(at) || logs[at].left_over));
-  const parts = /** @type {[Item[] | undefined, string, boolean?][]} */ ([[lost.get(false), "missing", true], [lost.get(true), "may be missing", true],
+  const parts = /** @type {[Item[] | undefined, string, boolean?][]} */ ([[lost.known, `missing${heard}`, true], [lost.maybe, "may be missing", true],
     [elsewhere, `not heard on ${elsewhere.length === 1 ? "its shelf" : "their shelves"}`, true], [moved.get(false), "in the wrong place", true],
     [moved.get(true), "may be in the wrong place", true], [strays, strayed], [of("unexpected"), "not in the catalogue"],
     [of("returned"), "back that should be away"], [of("not counted"), "not counted"], [others, "not known yet"], [of("no tag"), "without a tag"]]);
@@ -96,10 +114,12 @@ function lacking(object) {
   const isNamed = again.length <= MOST_NAMES && again.every((at) => shelves.isPlaced(at)), isAll = again.length === logs.length && again.length > 1;
   const number = isNamed ? shelves.names(again) : isAll ? "all logs" : count(again.length, "log"), those = isNamed ? `the log${again.length > 1 ? "s" : ""} of ${number}` : number;
   const isBroken = again.every((at) => logs[at].field !== "possible"), call = !isBroken ? `count ${number} again` : `${isAll && !isNamed ? "no log can" : `${those} can't`} be used: count again`;
-  const all = said.length || !here ? "" : here === 1 ? "the one expected item" : `all ${count(here, "expected item")}`;
-  const first = !all ? listing(said) : isAsked ? "" : `${all} ${here === 1 ? "is" : "are"} ${isUnsettled ? "in some log" : "here"}`;
+  const isMore = said.length === [of("unexpected"), of("returned")].filter((its) => its.length).length;
+  const all = !isMore || !here ? "" : here === 1 ? "the one expected item" : `all ${count(here, "expected item")}`;
+  const allHere = !all || isAsked ? [] : [`${all} ${here === 1 ? "is" : "are"} ${isUnsettled ? "in some log" : "here"}`];
+  const first = [...allHere, ...said.length ? [listing(said)] : []].join("; "), hidden = lost.hiding.length ? [`stronger replies may have hidden ${lost.maybe.length > 1 ? "them" : "it"} ${shelves.fields(lost.hiding)}`] : [];
   const whatToCount = again.length ? [`${call}${all && first ? ", as others may be there" : ""}`] : [];
-  const text = [first, ...whatToCount, ...doubts.flatMap(({ short, isFirst }) => isFirst ? [short] : [])].filter((it) => it).join("; ");
+  const text = [first, ...hidden, ...whatToCount, ...doubts.flatMap(({ short, isFirst }) => isFirst ? [short] : [])].filter((it) => it).join("; ");
   return `${text[0].toUpperCase()}${text.slice(1)}.${all && isAsked ? ` Together the logs have ${all}.` : ""}`;
 }
 
@@ -136,7 +156,6 @@ export function conditionsOf(object) {
   // of what is to be counted again, or where all are asked once more, nothing else is asked, nor said
   const those = shelves.sorted(deaf).filter((at) => !logs[at].hidden), answered = those.filter((at) => logs[at].answers), isSaid = !isUnsettled && !logs.some(({ hidden }) => hidden);
   const also = hiding.length ? `${mayBeWrong(` ${shelves.fields(shelves.sorted(hiding))},`)}.` : isSaid ? stillHolds(margin?.margin) : "";
-  const sure = margin && !isUnsettled ? [HOLDS] : [];
-  const ifDeaf = answered.length ? deafIn(` ${shelves.fields(answered)}`) : those.length ? DEAF : "";
+  const sure = margin && !isUnsettled ? [HOLDS] : [], ifDeaf = answered.length ? deafIn(` ${shelves.fields(answered)}`) : those.length ? DEAF : "";
   return [...sure, also, ...isResting ? [ifDeaf] : []].filter((it) => it);
 }
