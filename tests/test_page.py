@@ -756,7 +756,7 @@ def test_several_logs(page):
     said = "3 logs, each with its own answer. Complete, as far as a log can show: 0 of 3."
     page.until("h1", said)
     assert (page.texts("h1"), page.driver.title) == ([said], said)
-    assert (page.texts(".banner"), page.said()) == ([], "")
+    assert not page.texts(".banner") and page.said().startswith("What this takes for granted (7)")
     assert not page.driver.find_element("id", "text").is_displayed()
     page.is_readable()
     page.press("#logs button", 1)
@@ -783,7 +783,8 @@ def test_several_logs_on_paper_are_a_record(page):
     when = r"of \d+ \w+ \d{4}, \d\d:\d\d"
     for words in (f"one: complete 1 · {when} · SHA-256 {sha256(one).hexdigest()}",
                   f"two: absent E0040100000000A1 · {when} · SHA-256 {sha256(two).hexdigest()}",
-                  r"nothing left open: 1 of 2\. \(2 files, by vicinity ", "Counted on"):
+                  r"can show: 1 of 2\. \(2 files, by vicinity ", "What this takes for granted",
+                  "Counted on"):
         assert re.search(words, page.said())
 
 
@@ -887,7 +888,7 @@ def test_items_without_a_place_are_not_called_in_place(page):
     books = b"uid,place\nE0040100000000A1,A\nE0040100000000B2,any\nE0040100000000B1,B\n"
     logs = {"A.log": log_of("I1 RA QA I1 S"), "B.log": log_of("I1 RB QB I1 S")}
     page.drop(**{"books.csv": books, **logs})
-    page.until("h1", "1 item missing (E0040100000000B1, of B).")
+    page.until("h1", "1 item missing if the reader of B heard to the end (E0040100000000B1, of B).")
     assert page.texts(".lights dd")[:2] == ["2 of 2 logs", "2 of 3 items, 1 without a place"]
     page.drop(**{"books.csv": books.replace(b"any", b"B")})
     page.until(".lights dd", "2 of 3 items")
@@ -960,7 +961,8 @@ def test_rows_without_a_tag(page):
     """They are counted, but nothing is known of them. Without a title the UID names an item."""
     catalogue = b"uid,title\nE0040100000000A1,Walden\nnone,Emma\n"
     page.drop(**{"catalogue": catalogue, "one.log": log_of("I1 RB QB I1 S")})
-    page.until("h1", "1 item missing (Walden), 1 not in the catalogue and 1 without a tag.")
+    page.until("h1", "1 item missing if the reader of one.log heard to the end (Walden), 1 not in "
+               "the catalogue and 1 without a tag.")
     assert page.texts(".lights dd")[:2] == ["1 of 1 log", "0 of 2 items, 1 without a tag"]
     names = "return [...document.querySelectorAll('.items th[scope=row]')]"
     assert page.run(f"{names}.map((it) => [it.cellIndex, it.innerText])") == [
@@ -1155,7 +1157,7 @@ def test_nothing_is_shown_while_a_file_is_read(page, is_stopped):
 
 def test_the_logs_before_are_not_shown_while_a_file_is_read(page):
     page.drop(one=log_of("I1 RA UA"), two=log_of("I1 RA QA I1 S UA"))
-    page.until("h1", "nothing left open: 0 of 2.")
+    page.until("h1", "can show: 0 of 2.")
     page.run(SLOW)
     page.drop(**{"slow.log": log_of("I1 S UA"), "books.csv": b"uid\n"})
     assert (page.texts("h1"), page.texts("#logs button"), page.driver.title) == (
@@ -1330,7 +1332,7 @@ def test_a_page_that_a_browser_has_saved(page, tmp_path):
     page.drop(one=log_of("I1 RA QA I1 S UA"), two=log_of("I1 S UA"))
     page.press("#logs button")
     page.until("h1", "The one listed tag is here")
-    page.until("#each", "nothing left open: 0 of 2.")
+    page.until("#each", "can show: 0 of 2.")
     file = tmp_path / "saved.html"
     file.write_text(page.run(AS_SAVED))
     page.open(file)
@@ -1474,7 +1476,7 @@ def test_many_logs_do_not_freeze_the_page(page):
     with page.never_frozen():
         page.drop_files({f"{number}.log": log_of("I1 RA QA I1 S UA") for number in range(400)})
         page.run("document.querySelector('#logs button').focus()")
-        page.when("h1", "nothing left open: 0 of 400.")
+        page.when("h1", "can show: 0 of 400.")
     assert page.run("return document.activeElement.textContent").startswith("i0.log The one")
 
 

@@ -688,13 +688,14 @@ def test_a_log_joins_a_collection_or_replaces_that_of_its_place(page):
     drop(page, {"books.csv": BOTH, "A.log": field(UID_A)})
     drop(page, {"B.log": field()})
     assert page.texts(".note") == ["B.log joined the logs that were here."]
-    assert page.texts("#told h1") == ["1 item may be missing (Walden, of B); nothing answered in B."]
+    empty = "1 item may be missing (Walden, of B); nothing answered in B."
+    assert page.texts("#told h1") == [empty]
     assert page.run(TOLD) == f"{page.texts('.note')[0]} {page.texts('#told h1')[0]}"
     drop(page, {"B.txt": field(UID_B)})
     assert page.texts(".note") == ["B.log was replaced by what you opened under the same name."]
     assert look(page) == "yes"
     page.press("#back")
-    page.until("h1", "1 item may be missing (Walden, of B); nothing answered in B.")
+    page.until("h1", empty)
     assert page.run(FOCUS) == page.texts("h1")[0]
     page.press("#back")
     page.until("h1", "1 item not counted; no log of B.")
@@ -808,7 +809,7 @@ def test_no_catalogue_takes_a_pasted_log_in(page):
 def test_nothing_is_said_any_more_when_all_is_closed(page, files):
     """Neither in the banner nor in the title, to whoever doesn't see it, nor on paper."""
     drop(page, files)
-    page.wait(lambda: look(page) in ("yes", "read") or "left open: 2 of 2." in page.run(TOLD))
+    page.wait(lambda: look(page) in ("yes", "read") or "can show: 2 of 2." in page.run(TOLD))
     page.press("#close")
     wanted = "Did the RFID reader find every tag?"
     page.until("h1", wanted)
@@ -1507,14 +1508,14 @@ def test_an_older_log_by_itself_is_asked_about(page, tmp_path):
     page.media()
     made = saved(page, tmp_path / "asked")
     drop(page, {"B.log": field(UID_B, listed=[UID_B])}, {"B.log": NOON})
-    page.until("#each", "nothing left open: 1 of 2.")
+    page.until("#each", "can show: 1 of 2.")
     assert page.texts("#logs button")[0].startswith(f"i\nA.log {asked}".replace("\n", ""))
     page.press("#logs button")
     (words,) = page.texts(".doubts b")
     page.press(".doubts button")
     page.until(".banner.yes h1", "The one listed tag is here, and no other.")
     said = f"{words} It was answered here: 'The older one counts'."
-    assert said in page.texts(".note") and "left open: 2 of 2." in page.texts("#each")[0]
+    assert said in page.texts(".note") and "can show: 2 of 2." in page.texts("#each")[0]
     page.media("print")
     assert said in page.texts(".signed")[0]
     page.media()
