@@ -16,6 +16,8 @@ const codeOf = (letter) => letter.charCodeAt(0), ASKING = codeOf("T"), CYCLED = 
 const LETTERS = /** @type {[string, Reading][]} */ ([["S", "silent"], ["R", "heard"], ["H", "captured"], ["C", "collision"],
   ["D", "garbled"], ["N", "unknown"]]);
 const READINGS = Array.from({ length: 256 }, (_, code) => LETTERS.find(([letter]) => codeOf(letter) === code)?.[1]);
+/** How many characters a line has at least, by its letter, if the log isn't refused: a request, a reply, a UID. */
+const SURE = Uint8Array.from(READINGS, (_, code) => ({ T: 12, R: 26, H: 26, U: 18 })[String.fromCharCode(code)] ?? 0);
 /** Those that name a tag, and those in which others may have answered. */
 const REPLIES = new Set(["heard", "captured"]), UNREAD = new Set(["captured", "collision", "garbled", "unknown"]);
 /** Where a frame begins in its line; the digits in it that say that a round has one slot, and that a request is a Stay Quiet. */
@@ -32,12 +34,18 @@ export class Log {
   #rows;
   counts = { lines: 0, rounds: 0, quiets: 0, cycles: 0, slots: 0, heard: 0, alone: 0, listed: 0 };
 
-  /** @param {Uint8Array} text */
-  constructor(text) {
+  /**
+   * @param {Uint8Array} text
+   * @param {boolean} [isRefused]
+   */
+  constructor(text, isRefused = false) {
     this.text = text;
     const { length } = text, starts = new Uint32Array(Math.min(length, MOST_LINES) + 2);
     let last = 0;
-    for (let at = 0; at < length && last < MOST_LINES;) if (text[at++] === LF) starts[++last] = at;
+    for (let at = 0; at < length && last < MOST_LINES; at++) if (text[at] === LF) {
+      starts[++last] = at + 1;
+      if (!isRefused) at += SURE[text[at + 1]] ?? 0;
+    }
     if (starts[last] !== length) starts[++last] = length + 1;
     this.#starts = starts.subarray(0, last + 1);
     this.#rows = this.#count();
@@ -50,9 +58,8 @@ export class Log {
     for (let line = 2; line <= this.lineCount; line++) {
       const code = this.#code(line);
       seen[code]++;
-      if (code !== ASKING && code !== CYCLED) continue;
       if (code === ASKING && this.#silences(line)) counts.quiets++;
-      rows[number++] = line;
+      if (code === ASKING || code === CYCLED) rows[number++] = line;
     }
     const alone = seen[codeOf("R")], cycles = seen[CYCLED];
     Object.assign(counts, { lines: this.lineCount, rounds: number - cycles - counts.quiets, cycles, alone, heard: alone + seen[codeOf("H")],
@@ -139,8 +146,7 @@ export class Log {
     for (let at = 0; at < this.rowCount; at++) {
       if (this.isQuiet(at)) ready.delete(uidIn(this.frame(this.lineOf(at))));
       else if (!this.isRound(at)) for (const uid of heard) ready.add(uid);
-      const uids = this.outcomes(at).filter((line) => this.isReply(line)).map((line) => uidIn(this.frame(line)));
-      for (const uid of uids) ready.add(uid) && heard.add(uid);
+      for (const uid of this.outcomes(at).filter((line) => this.isReply(line)).map((line) => uidIn(this.frame(line)))) ready.add(uid) && heard.add(uid);
     }
     return ready;
   }

@@ -60,7 +60,7 @@ const MOST_NAMED = 24;
  * @returns {Told}
  */
 export function tell(object, text = new TextEncoder().encode(object.text)) {
-  const log = new Log(text), isRefused = object.kind === KIND.REFUSED, { line = 0 } = object;
+  const isRefused = object.kind === KIND.REFUSED, log = new Log(text, isRefused), { line = 0 } = object;
   log.counts.lines = object.lines;
   /** @type {Told} */
   const told = { object, faulty: isRefused && line <= log.lineCount ? log.line(line) : "", cycles: log.version > 1, conflict: null,
