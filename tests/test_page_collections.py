@@ -1267,6 +1267,7 @@ def pressed(page, words):
 # one that isn't here any more; and until none are.
 TABLES = {"books.csv": BOTH, "places.csv": b"place,log\nA,A\nB,B\n"}
 OLD_A, NEW_A, OLD_B = {"A.log": field(UID_A)}, {"A.log": field()}, {"B.log": field(UID_B)}
+CUT = b"vicinity-survey 1 A.log\npossible\n"
 OLDER_THAN_GONE = {
     "numbers behind dots": (
         ({**TABLES, "A.20261130": field(), "B.20261130": field(UID_B)}, 1),
@@ -1298,6 +1299,10 @@ OLDER_THAN_GONE = {
     "left out before another collection": (
         ({"north.csv": books((UID_C, ",N")), "N.log": field(UID_C), "A.log": field()}, 3),
         "Leave out A.log", (COMPLETE, 0)),
+    "surveys in UTF-16, of which no name is known": (
+        (COMPLETE, 0), ({"n.surveys": CUT.decode().encode("utf-16")}, 1), "Back"),
+    "surveys that were cut off behind the first name": (
+        (COMPLETE, 0), ({"A.log": field(UID_A, asks=2)}, 2), ({"n.surveys": CUT}, 1), "Back"),
     "what never had a catalogue": (
         ({"places.csv": b"place,log\nA,x1.log\nB,x2.log\n", "x1.log": field(),
           "x2.log": field(UID_B)}, 3), (COMPLETE, 0)),

@@ -12,6 +12,8 @@ import { SENTENCES } from "./say/sentences.mjs";
 export const UNFINISHED = /\.(crdownload|opdownload|download|part|partial|filepart|tmp)$/i, NO_LOG = "a log begins with 'vicinity-log'";
 /** How a log or surveys begin, in whatever coding. */
 const MARK = /v\0?i\0?c\0?i\0?n\0?i\0?t\0?y\0?-/;
+/** How a text of surveys ends that wasn't cut off, and within how many bytes. */
+const END = /\nend \d+ \w{4}\r?\n$/, MOST_END = 40;
 
 /** @param {Entry} entry */
 export const isATable = (entry) => kindOf(entry) === "table";
@@ -40,10 +42,11 @@ const rootOf = (name) => uncopied(bareOf(name)).replace(/[^\p{L}]+/gu, "").toLow
 /** @typedef {{into: Age & {place?: string | null}, file: Entry, name: string}} Opened an open file, or a log in a text of surveys, by its own name */
 
 /**
- * What a file is called, or the logs in it.
+ * What a file is called, or the logs in it; where these aren't all known, both.
  * @param {Entry} file
  */
-const namesIn = (file, name = file.was ?? file.name) => kindOf(file) === "surveys" ? surveyedIn(file) : [name];
+const namesIn = (file, name = file.was ?? file.name, names = surveyedIn(file)) =>
+  names.length && END.test(new TextDecoder().decode(file.text.subarray(-MOST_END))) ? names : [...names, name];
 
 /**
  * Of which log an open one is a count: a copy of that which was copied, unless it has a place of its own.
