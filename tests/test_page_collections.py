@@ -1314,6 +1314,10 @@ NO_OLDER = {
     "whole then": ((COMPLETE, 0), ({"books.csv.part": b"uid"}, 1), ({"books.csv": BOTH}, 2)),
     "by another name": (({"books.csv": BOTH, **OLD_B}, 0), ({"shelf.log": field(UID_A)}, 1),
                         "Leave out shelf.log", (OLD_A, 1)),
+    "one of two logs of a place, called like copies": (
+        ({"books.csv": MORE, "p.csv": b"place,log\nA,A (1)\nA,A (2)\nB,B\n",
+          "A (1).log": field(UID_A)}, 0), ({**OLD_B, "A (2).log": field(UID_C)}, 1),
+        ({"A (2).log": field(UID_C, asks=2)}, 2)),
     "no log at all": ((COMPLETE, 0), ({"photo.jpg": b"\xff\xd8\xff\xe0\x00"}, 1))}
 
 
@@ -1329,6 +1333,13 @@ def test_what_is_older_than_a_file_that_is_gone_is_asked_about(page, how):
     assert (look(page) == "yes") == (how in NO_OLDER)
     assert bool(re.match("All 2 expected items are in some log; but .* older than (one|those) "
                          "that w", headline)) == (how in OLDER_THAN_GONE)
+
+
+def test_what_is_opened_once_more_is_still_here(page):
+    """Nothing else is older than it was, though one of its name is."""
+    for files in {**COMPLETE, "A (1).log": field()}, {"A (1).log": field()}:
+        drop(page, files, {name: NOON + HOUR * (name == "A (1).log") for name in files})
+        assert len(page.texts(".doubts b")) == 2 and "any more" not in page.texts(".doubts")[0]
 
 
 def test_logs_that_stay_are_asked_about_as_soon_as_a_newer_one_leaves(page):

@@ -39,7 +39,7 @@ export const bareOf = (name) => stemOf(name.replace(UNFINISHED, "").replace(/\.\
 const rootOf = (name) => uncopied(bareOf(name)).replace(/[^\p{L}]+/gu, "").toLowerCase();
 
 
-/** @typedef {{into: Age & {place?: string | null}, file: Entry, name: string}} Opened an open file, or a log in a text of surveys, by its own name */
+/** @typedef {{into: Age & {place?: string | null, name?: string}, file: Entry, name: string}} Opened an open file, or a log in a text of surveys, by its own name */
 
 /**
  * What a file is called, or the logs in it; where these aren't all known, both.
@@ -49,10 +49,10 @@ const namesIn = (file, name = file.was ?? file.name, names = surveyedIn(file)) =
   names.length && END.test(new TextDecoder().decode(file.text.subarray(-MOST_END))) ? names : [...names, name];
 
 /**
- * Of which log an open one is a count: a copy of that which was copied, unless it has a place of its own.
+ * Of which log an open one is a count: a copy of that which was copied, unless it has a place by its own name.
  * @param {Opened} it
  */
-const keyOf = ({ into: { place }, name }) => place === bareOf(name) ? bareOf(name) : uncopied(bareOf(name));
+const keyOf = ({ into: { place, name: as }, name }) => place && as === name ? bareOf(name) : uncopied(bareOf(name));
 
 /**
  * Whether two files have the same bytes.
@@ -67,8 +67,9 @@ const isSame = ({ text: one }, { text: other }) => one.length > 0 && one.length 
  * @param {Entry[]} open
  */
 export function awayOf(seen, open) {
-  const ids = new Set(open.map(({ id }) => id)), isNothing = (/** @type {Entry} */ it) => isStrange(it) && !isBroken(it) && !MARK.test(startOf(it));
-  return seen.filter((it) => !ids.has(it.id) && !isNothing(it) && (!it.made || isATable(it)));
+  const named = grouped(open, ({ name, was = name }) => was), isNothing = (/** @type {Entry} */ it) => isStrange(it) && !isBroken(it) && !MARK.test(startOf(it));
+  const isOpen = (/** @type {Entry} */ it) => named.get(it.name)?.some((other) => other.id === it.id || other.changed === it.changed && isSame(other, it));
+  return seen.filter((it) => !isOpen(it) && !isNothing(it) && (!it.made || isATable(it)));
 }
 
 /**
