@@ -1,6 +1,6 @@
 /** Which open files are older than what was here since the page was empty. */
 import { hasUids, isBroken, isPlaces, isSpreadsheet, isStrange, kindOf, startOf, stemOf, surveyedIn, uncopied } from "./judge/files.mjs";
-import { grouped } from "./judge/groups.mjs";
+import { grouped, madeOnce } from "./judge/groups.mjs";
 import { SENTENCES } from "./say/sentences.mjs";
 
 /** @typedef {import("./opened.mjs").Entry} Entry */
@@ -12,8 +12,8 @@ import { SENTENCES } from "./say/sentences.mjs";
 export const UNFINISHED = /\.(crdownload|opdownload|download|part|partial|filepart|tmp)$/i, NO_LOG = "a log begins with 'vicinity-log'";
 /** How a log or surveys begin, in whatever coding. */
 const MARK = /v\0?i\0?c\0?i\0?n\0?i\0?t\0?y\0?-/;
-/** How a text of surveys ends that wasn't cut off, and within how many bytes. */
-const END = /\nend \d+ \w{4}\r?\n$/, MOST_END = 40;
+/** How a text of surveys ends that wasn't cut off, and within how many bytes; and by which keys what was here is compared. */
+const END = /\nend \d+ \w{4}\r?\n$/, MOST_END = 40, KEYS = /** @type {WeakMap<Entry, string[]>} */ (new WeakMap());
 
 /** @param {Entry} entry */
 export const isATable = (entry) => kindOf(entry) === "table";
@@ -37,7 +37,6 @@ export const bareOf = (name) => stemOf(name.replace(UNFINISHED, "").replace(/\.\
  * @param {string} name
  */
 const rootOf = (name) => uncopied(bareOf(name)).replace(/[^\p{L}]+/gu, "").toLowerCase();
-
 
 /** @typedef {{into: Age & {place?: string | null, name?: string}, file: Entry, name: string}} Opened an open file, or a log in a text of surveys, by its own name */
 
@@ -93,8 +92,8 @@ export function putAges(object, { tables, logs }, away) {
  * @param {Entry} file
  * @param {Entry[]} away
  */
-export function putAge(into, file, away, one = { into, file, name: file.was ?? file.name }) {
-  put([one], away.filter((it) => namesIn(it).some((name) => uncopied(bareOf(name)) === keyOf(one))));
+export function putAge(into, file, away, one = { into, file, name: file.was ?? file.name }, key = keyOf(one)) {
+  put([one], away.filter((it) => madeOnce(KEYS, it, () => namesIn(it).map((name) => uncopied(bareOf(name)))).includes(key)));
 }
 
 /**
@@ -103,28 +102,27 @@ export function putAge(into, file, away, one = { into, file, name: file.was ?? f
  * @param {Entry[]} away
  */
 function put(open, away) {
-  const byKey = grouped(open, keyOf);
+  const here = { open, byKey: grouped(open, keyOf), tables: open.filter(({ file }) => isATable(file)) };
   for (const { into, file: { changed } } of open) Object.assign(into, { changed, newer: undefined, than: undefined, beside: undefined });
   for (const gone of away) {
-    const { changed: newer = 0, name: than, id } = gone, isOlder = (/** @type {Opened} */ { file }) => (file.changed ?? Infinity) < newer && !isSame(file, gone);
-    for (const { into } of open.some(isOlder) ? new Set(besideOf(gone, open, byKey).filter(isOlder)) : [])
-      Object.assign(into, { beside: (into.beside ?? 0) + id }, newer > (into.newer ?? -Infinity) && { newer, than });
+    const { changed: newer = 0, name: than, id } = gone, older = open.filter(({ file }) => (file.changed ?? Infinity) < newer);
+    const beside = new Set(older.length ? besideOf(gone, older, here) : []);
+    for (const it of older) if (beside.has(it) && !isSame(it.file, gone)) Object.assign(it.into, { beside: (it.into.beside ?? 0) + id }, newer > (it.into.newer ?? -Infinity) && { newer, than });
   }
 }
 
 /**
- * Beside which: tables of its kind, logs of its name; where there are none, all, but a file that is here by another name. What has no mark
- * of a log, and no column of a catalogue, was one only by its name.
+ * Beside which older ones: tables of its kind, logs of its name; where there are none, all, but a file that is here by another name. What
+ * has no mark of a log, and no column of a catalogue, was one only by its name.
  * @param {Entry} gone
- * @param {Opened[]} open
- * @param {Map<string, Opened[]>} byKey
+ * @param {Opened[]} older
+ * @param {{open: Opened[], tables: Opened[], byKey: Map<string, Opened[]>}} here
  */
-function besideOf(gone, open, byKey) {
-  if (strangeness(gone) && !MARK.test(startOf(gone))) return open.filter(({ name }) => rootOf(name) === rootOf(gone.name));
-  const tables = open.filter(({ file }) => isATable(file));
-  if (isATable(gone)) return [tables.filter(({ file }) => isPlaces(file) === isPlaces(gone)), open].find((list) => list.length) ?? [];
+function besideOf(gone, older, { open, tables, byKey }) {
+  if (strangeness(gone) && !MARK.test(startOf(gone))) return older.filter(({ name }) => rootOf(name) === rootOf(gone.name));
+  if (isATable(gone)) return [tables.filter(({ file }) => isPlaces(file) === isPlaces(gone)), older].find((list) => list.length) ?? [];
   // what couldn't be read may have been a table
-  const all = open.filter((it) => !gone.text.length || !tables.includes(it)), isHere = all.some(({ file }) => file.changed === gone.changed && isSame(file, gone));
-  const named = (/** @type {string} */ key) => byKey.get(key)?.filter((it) => all.includes(it)) ?? [];
-  return namesIn(gone).flatMap((name) => [named(bareOf(name)), named(uncopied(bareOf(name))), isHere ? [] : all].find((list) => list.length) ?? []);
+  const mayBe = (/** @type {Opened} */ it) => !gone.text.length || !tables.includes(it), isHere = open.some(({ file }) => file.changed === gone.changed && isSame(file, gone));
+  const named = (/** @type {string} */ key) => (byKey.get(key) ?? []).filter(mayBe);
+  return namesIn(gone).flatMap((name) => [named(bareOf(name)), named(uncopied(bareOf(name))), isHere ? [] : older.filter(mayBe)].find((list) => list.length) ?? []);
 }
