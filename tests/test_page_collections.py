@@ -1296,6 +1296,9 @@ OLDER_THAN_GONE = {
     "what was refused": (
         ({"list.csv": b"uid,place\nE0040100000000A1,A\nno UID,B\n", "x1.log": field(),
           "x2.log": field(UID_B)}, 3), (COMPLETE, 0)),
+    "of a reader that calls all its logs alike": (
+        ({"books.csv": BOTH, "scan.log": field()}, 3), ({"scan.log": field(UID_B)}, 4),
+        "Count it as B", (OLD_A, 0)),
     "left out before another collection": (
         ({"north.csv": books((UID_C, ",N")), "N.log": field(UID_C), "A.log": field()}, 3),
         "Leave out A.log", (COMPLETE, 0)),

@@ -10,10 +10,10 @@ import { SENTENCES } from "./say/sentences.mjs";
 
 /** How the name of a file ends while it is downloaded, or written; and why a text is no log. */
 export const UNFINISHED = /\.(crdownload|opdownload|download|part|partial|filepart|tmp)$/i, NO_LOG = "a log begins with 'vicinity-log'";
-/** How a log or surveys begin, in whatever coding. */
-const MARK = /v\0?i\0?c\0?i\0?n\0?i\0?t\0?y\0?-/;
-/** How a text of surveys ends that wasn't cut off, and within how many bytes; and by which keys what was here is compared. */
-const END = /\nend \d+ \w{4}\r?\n$/, MOST_END = 40, KEYS = /** @type {WeakMap<Entry, string[]>} */ (new WeakMap());
+/** How a log or surveys begin, in whatever coding; how surveys end that weren't cut off, and within how many bytes. */
+const MARK = /v\0?i\0?c\0?i\0?n\0?i\0?t\0?y\0?-/, END = /\nend \d+ \w{4}\r?\n$/, MOST_END = 40;
+/** By which keys what was here is compared; and by what other name each of it counted last. */
+const KEYS = /** @type {WeakMap<Entry, string[]>} */ (new WeakMap()), COUNTED = /** @type {Map<number, string | undefined>} */ (new Map());
 
 /** @param {Entry} entry */
 export const isATable = (entry) => kindOf(entry) === "table";
@@ -48,10 +48,13 @@ const namesIn = (file, name = file.was ?? file.name, names = surveyedIn(file)) =
   names.length && END.test(new TextDecoder().decode(file.text.subarray(-MOST_END))) ? names : [...names, name];
 
 /**
- * Of which log an open one is a count: a copy of that which was copied, unless it has a place by its own name.
- * @param {Opened} it
+ * Of which log one is a count: a copy of that which was copied, unless it has a place by its own name. What counts as something else is a
+ * count only of what did so, too: a reader may call all its logs alike.
+ * @param {string} name
+ * @param {string} [as]
+ * @param {string | null} [place]
  */
-const keyOf = ({ into: { place, name: as }, name }) => place && as === name ? bareOf(name) : uncopied(bareOf(name));
+const keyOf = (name, as = name, place = null, own = uncopied(bareOf(name))) => as === name && place || own === bareOf(as) ? bareOf(as) : as === name ? own : `${own} as ${bareOf(as)}`;
 
 /**
  * Whether two files have the same bytes.
@@ -81,7 +84,7 @@ export function putAges(object, { tables, logs }, away) {
   const byName = new Map(logs.flatMap((file) => namesIn(file, file.name).map((name) => [name, file])));
   const ofLogs = object.logs.flatMap((into) => {
     const file = byName.get(into.name);
-    return file ? { into: Object.assign(into, { was: file.was }), file, name: file.was ?? into.name } : [];
+    return file && COUNTED.set(file.id, file.was && into.name) ? { into: Object.assign(into, { was: file.was }), file, name: file.was ?? into.name } : [];
   });
   put([...tables.map((file, at) => ({ into: object.files[at], file, name: file.name })), ...ofLogs], away);
 }
@@ -92,7 +95,7 @@ export function putAges(object, { tables, logs }, away) {
  * @param {Entry} file
  * @param {Entry[]} away
  */
-export function putAge(into, file, away, one = { into, file, name: file.was ?? file.name }, key = keyOf(one)) {
+export function putAge(into, file, away, one = { into, file, name: file.was ?? file.name }, key = keyOf(one.name)) {
   put([one], away.filter((it) => madeOnce(KEYS, it, () => namesIn(it).map((name) => uncopied(bareOf(name)))).includes(key)));
 }
 
@@ -102,7 +105,7 @@ export function putAge(into, file, away, one = { into, file, name: file.was ?? f
  * @param {Entry[]} away
  */
 function put(open, away) {
-  const here = { open, byKey: grouped(open, keyOf), tables: open.filter(({ file }) => isATable(file)) };
+  const here = { open, byKey: grouped(open, ({ name, into }) => keyOf(name, into.name, into.place)), tables: open.filter(({ file }) => isATable(file)) };
   for (const { into, file: { changed } } of open) Object.assign(into, { changed, newer: undefined, than: undefined, beside: undefined });
   for (const gone of away) {
     const { changed: newer = 0, name: than, id } = gone, older = open.filter(({ file }) => (file.changed ?? Infinity) < newer);
@@ -124,5 +127,5 @@ function besideOf(gone, older, { open, tables, byKey }) {
   // what couldn't be read may have been a table
   const mayBe = (/** @type {Opened} */ it) => !gone.text.length || !tables.includes(it), isHere = open.some(({ file }) => file.changed === gone.changed && isSame(file, gone));
   const named = (/** @type {string} */ key) => (byKey.get(key) ?? []).filter(mayBe);
-  return namesIn(gone).flatMap((name) => [named(bareOf(name)), named(uncopied(bareOf(name))), isHere ? [] : older.filter(mayBe)].find((list) => list.length) ?? []);
+  return namesIn(gone).flatMap((name) => [named(keyOf(name, COUNTED.get(gone.id), name)), named(bareOf(name)), named(uncopied(bareOf(name))), isHere ? [] : older.filter(mayBe)].find((list) => list.length) ?? []);
 }
