@@ -985,6 +985,14 @@ def test_a_log_in_utf_16_is_refused(page, program, tmp_path, coding):
 
 
 @pytest.mark.parametrize("coding", ["utf-16-le", "utf-16-be"])
+def test_surveys_in_utf_16_are_refused(page, coding):
+    """As a shell of Windows may write them: nothing was cut off, and they are no table."""
+    drop(page, {**COMPLETE, "n": "\ufeffvicinity-survey 1 C.log\n".encode(coding)})
+    assert page.texts(".error") == ["books.csv: no answer (n, line 1: it seems to be UTF-16)."]
+    assert page.texts(".steps li")[0] == "Save it as ASCII or UTF-8."
+
+
+@pytest.mark.parametrize("coding", ["utf-16-le", "utf-16-be"])
 def test_a_table_in_utf_16_that_is_broken_is_called_that(page, coding):
     """Cut within a sign, it is refused; with half a sign at its head, by which nobody sees a column
     uid, it is left out of what is here. The page doesn't take it for a table of no columns."""

@@ -14,7 +14,7 @@ const ONE_OF_EACH = "Open one catalogue (a table with a column uid), at most one
 /** A cell with a UID, low byte first; files of which lines may stand in a table; and what has no name of a file. */
 const UNNAMED = /^(?:pasted text|standard input)$/, TURNED = /(?:^|[,;\t"])(?:[0-9A-F]{2}[ :.-]?){7}E0(?:$|[,;\t"])/i, IN_TABLES = ["surveys", "turned", "list", "binary", "table", "text"];
 /** How a text begins that somebody meant as a log, but for what an editor adds to it, or a coding makes of it. */
-const [BEGINS, LOG_IS] = SENTENCES.aLog, isOfALog = (/** @type {string} */ text) => new RegExp(BEGINS, "i").test(text.replace(/[\0\uFEFF\uFFFD]/g, ""));
+const [BEGINS, LOG_IS] = SENTENCES.aLog, CODED = /[\0\uFEFF\uFFFD]/g, isOfALog = (/** @type {string} */ text) => new RegExp(BEGINS, "i").test(text.replace(CODED, ""));
 
 /**
  * What a file is that is no log, with its name.
@@ -86,7 +86,7 @@ const wrongFile = (text) => ({ wrong: `this is no log and no table${foundIn(text
 function wrongTable(text, line, fault) {
   const [name, [, what]] = foundIn(text), first = fault === "Utf8" ? ofFirst(text, line) : undefined;
   if (line === 1 && !IN_TABLES.includes(name)) return { wrong: `this is no table${what}`, fix: "Open the table itself, saved as CSV." };
-  if (text.includes("\0") && !isOfALog(text)) return advice("utf16", SENTENCES.tables);
+  if (text.includes("\0") && !isOfALog(text) && foundIn(text.replace(CODED, ""))[0] !== "surveys") return advice("utf16", SENTENCES.tables);
   if (first) return { wrong: first[0], fix: first[1] };
   if (fault === "Utf8" && text.includes("\uFFFD")) return { wrong: "the line isn't UTF-8", fix: "Save the sheet as 'CSV UTF-8'." };
   return advice(fault === "Uid" && TURNED.test(text) ? "turned" : fault, SENTENCES.tables);
