@@ -1317,6 +1317,12 @@ OLDER_THAN_GONE = {
     "what never had a catalogue": (
         ({"places.csv": b"place,log\nA,x1.log\nB,x2.log\n", "x1.log": field(),
           "x2.log": field(UID_B)}, 3), (COMPLETE, 0)),
+    "of the place that another name is of now": (
+        ({"books.csv": books((UID_A, ",A")), "p.csv": b"place,log\nA,r.log\n",
+          "r.log": field()}, 3),
+        ({"books.csv": BOTH, "p.csv": b"place,log\nA,old.log\nB,r.log\n",
+          "r.log": field(UID_B)}, 4),
+        ({"old.log": field(UID_A)}, 0)),
     "a table of places, of which none is here": (
         (COMPLETE, 0), ({"places.csv": b"place,log\nA,A\nB,B\nC,C\n"}, 1), "Back")}
 NO_OLDER = {

@@ -12,8 +12,8 @@ import { SENTENCES } from "./say/sentences.mjs";
 export const UNFINISHED = /\.(crdownload|opdownload|download|part|partial|filepart|tmp)$/i, NO_LOG = "a log begins with 'vicinity-log'";
 /** How a log or surveys begin, in whatever coding; how surveys end that weren't cut off, and within how many bytes. */
 const MARK = /v\0?i\0?c\0?i\0?n\0?i\0?t\0?y\0?-/, END = /\nend \d+ \w{4}\r?\n$/, MOST_END = 40;
-/** By which keys what was here is compared; and by what other name each of it counted last. */
-const KEYS = /** @type {WeakMap<Entry, string[]>} */ (new WeakMap()), COUNTED = /** @type {Map<number, string | undefined>} */ (new Map());
+/** By which keys what was here is compared; and as what each of it was judged last. */
+const KEYS = /** @type {WeakMap<Entry, string[]>} */ (new WeakMap()), JUDGED = /** @type {Map<number, import("./judge/objects.mjs").OneLog>} */ (new Map());
 
 /** @param {Entry} entry */
 export const isATable = (entry) => kindOf(entry) === "table";
@@ -84,7 +84,7 @@ export function putAges(object, { tables, logs }, away) {
   const byName = new Map(logs.flatMap((file) => namesIn(file, file.name).map((name) => [name, file])));
   const ofLogs = object.logs.flatMap((into) => {
     const file = byName.get(into.name);
-    return file && COUNTED.set(file.id, file.was && into.name) ? { into: Object.assign(into, { was: file.was }), file, name: file.was ?? into.name } : [];
+    return file && JUDGED.set(file.id, Object.assign(into, { was: file.was })) ? { into, file, name: file.was ?? into.name } : [];
   });
   put([...tables.map((file, at) => ({ into: object.files[at], file, name: file.name })), ...ofLogs], away);
 }
@@ -95,9 +95,8 @@ export function putAges(object, { tables, logs }, away) {
  * @param {Entry} file
  * @param {Entry[]} away
  */
-export function putAge(into, file, away, one = { into, file, name: file.was ?? file.name }, key = keyOf(one.name)) {
+export const putAge = (into, file, away, one = { into, file, name: file.was ?? file.name }, key = keyOf(one.name)) =>
   put([one], away.filter((it) => madeOnce(KEYS, it, () => namesIn(it).map((name) => uncopied(bareOf(name)))).includes(key)));
-}
 
 /**
  * Each file that isn't here any more is asked about beside open ones that are older.
@@ -115,8 +114,8 @@ function put(open, away) {
 }
 
 /**
- * Beside which older ones: tables of its kind, logs of its name; where there are none, all, but a file that is here by another name. What
- * has no mark of a log, and no column of a catalogue, was one only by its name.
+ * Beside which older ones: tables of its kind, logs of its name; where there are none, all, but a file that is here by another name; and those
+ * of the place that it was of, if that has none of its name. What has no mark of a log, and no column of a catalogue, was one only by its name.
  * @param {Entry} gone
  * @param {Opened[]} older
  * @param {{open: Opened[], tables: Opened[], byKey: Map<string, Opened[]>}} here
@@ -126,6 +125,8 @@ function besideOf(gone, older, { open, tables, byKey }) {
   if (isATable(gone)) return [tables.filter(({ file }) => isPlaces(file) === isPlaces(gone)), older].find((list) => list.length) ?? [];
   // what couldn't be read may have been a table
   const mayBe = (/** @type {Opened} */ it) => !gone.text.length || !tables.includes(it), isHere = open.some(({ file }) => file.changed === gone.changed && isSame(file, gone));
-  const named = (/** @type {string} */ key) => (byKey.get(key) ?? []).filter(mayBe);
-  return namesIn(gone).flatMap((name) => [named(keyOf(name, COUNTED.get(gone.id), name)), named(bareOf(name)), named(uncopied(bareOf(name))), isHere ? [] : older.filter(mayBe)].find((list) => list.length) ?? []);
+  const named = (/** @type {string} */ key) => (byKey.get(key) ?? []).filter(mayBe), names = namesIn(gone), { was, name: as, place = null } = JUDGED.get(gone.id) ?? {};
+  const ofPlace = names.length > 1 || place === null ? [] : open.filter(({ into }) => into.place === place), isApart = ofPlace.every(({ name }) => bareOf(name) !== bareOf(names[0]));
+  return [...isApart ? ofPlace : [], ...names.flatMap((name) =>
+    [named(keyOf(name, was && as, name)), named(bareOf(name)), named(uncopied(bareOf(name))), isHere ? [] : older.filter(mayBe)].find((list) => list.length) ?? [])];
 }

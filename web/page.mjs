@@ -115,13 +115,15 @@ at("logs").addEventListener("click", ({ target }) => {
  * What is still judged of others isn't needed any more.
  * @param {Entry[]} taken
  * @param {number} [which]
+ * @param {Entry[]} [seen] files that weren't here before
  */
-function take(taken, which = taken.length > 1 ? -1 : 0) {
+function take(taken, which = taken.length > 1 ? -1 : 0, seen = []) {
   if (work.isBusy) work.stop();
   if (!taken.length) begin();
   // what was asked before may still have another answer: that it was stopped
   now.entries = taken.map((entry) => ({ ...entry, said: undefined }));
   now.current = which;
+  now.seen = [...new Set([...now.seen, ...seen])];
   now.away = awayOf(now.seen, filesOf(now.entries));
   now.entries.forEach((it) => annotate(it, now.away));
   now.entries.filter(isUnanswered).forEach(ask);
@@ -132,10 +134,8 @@ function take(taken, which = taken.length > 1 ? -1 : 0) {
 /** Keeps what is here, so that one can go back to it. */
 const keep = () => now.past.push({ entries: [...now.entries], current: now.current, seen: now.seen });
 
-back.addEventListener("click", () => now.past.splice(-1).forEach(({ entries, current, seen }) => {
-  now.seen = [...new Set([...seen, ...now.seen])];
-  take(entries.map((entry) => entry.error === STOPPED ? { ...entry, error: undefined } : entry), current);
-}));
+back.addEventListener("click", () => now.past.splice(-1).forEach(({ entries, current, seen }) =>
+  take(entries.map((entry) => entry.error === STOPPED ? { ...entry, error: undefined } : entry), current, seen)));
 close.addEventListener("click", () => { keep(); now.seen = []; take([]); });
 
 /**
@@ -185,8 +185,7 @@ function open(chosen, made) {
     if (!now.pending) quiet();
     const made = gathered(taken, now.entries);
     if (now.entries.length) keep();
-    if (taken[0].made !== EXAMPLE) now.seen = [...now.seen, ...taken];
-    take(made, made.length < 2 ? 0 : taken.length > 1 ? -1 : made.length - 1);
+    take(made, made.length < 2 ? 0 : taken.length > 1 ? -1 : made.length - 1, taken[0].made === EXAMPLE ? [] : taken);
   }).catch(({ message }) => take([{ ...mine, error: message }]));
 }
 
