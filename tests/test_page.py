@@ -1125,7 +1125,8 @@ def test_the_example_leaves_with_the_first_file(page):
     page.drop(**{"A.log": log_of("I1 RA QA I1 S")})
     page.until("h1", OF_A_DEAF.format("A"))
     page.press("#example")
-    page.until(".note", "What was here (books.csv, 1 log) was closed. This is an example: twelve")
+    page.until(".note", "What was here (books.csv, 1 log) was closed.")
+    page.until(".note", "This is an example: twelve")
     assert "books.csv" not in page.said().partition("closed.")[2]
     page.until(".banner", "1 item missing if the reader of A heard to the end (Walden, of A)")
 

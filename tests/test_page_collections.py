@@ -520,7 +520,7 @@ def test_it_is_asked_which_of_two_is_the_older(page, how, tmp_path):
     assert re.match(rf"Leave out {later} of \d+ Nov 2026, \d\d:\d\d$", second)
     page.press(".doubts button", at + 1)
     if how == "of one place":
-        page.until("h1", "No log B-today of B, as p.csv names.")
+        page.until("h1", "No log B-today of B, as p.csv names; the log of B is older")
         pressed(page, "It isn't of this count")
     pressed(page, "The older one counts")
     page.until(".banner.yes h1", "All 3 expected items are here, and no others.")
@@ -1128,7 +1128,7 @@ def test_a_log_of_half_a_day_before_is_not_green(page, late, answer):
     when the files are stands below the headline."""
     drop(page, COMPLETE, {"books.csv": NOON - 9 * DAY, "A.log": NOON, "B.log": NOON - late})
     assert (look(page) == "yes") == answer
-    assert re.search(r"2 logs . files of 1[78] Nov 2026, \d\d:\d6 to 18 Nov 2026, \d\d:\d6$",
+    assert re.search(r"2 logs of 1[78] Nov 2026, \d\d:\d6 to 18 Nov 2026, \d\d:\d6$",
                      page.texts(".banner p")[1])
     if answer:
         return

@@ -389,7 +389,7 @@ def test_page_of_a_collection_with_an_older_log(reconciled, tmp_path):
     page = reconciled(*logs, old)
     (words,) = page.texts(".doubts b")
     assert re.match(r"The log of C is older than the others: its file is of 13 Sept? 2020", words)
-    assert re.search(r"3 logs . files of 13 Sept? 2020, \d\d:26 to ", page.texts(".banner p")[1])
+    assert re.search(r"3 logs of 13 Sept? 2020, \d\d:26 to ", page.texts(".banner p")[1])
     assert page.texts(".doubts button") == []
 
 

@@ -95,8 +95,9 @@ export function putAges(object, { tables, logs }, away) {
  * @param {Entry} file
  * @param {Entry[]} away
  */
-export const putAge = (into, file, away, one = { into, file, name: file.was ?? file.name }, key = keyOf(one.name)) =>
+export function putAge(into, file, away, one = { into, file, name: file.was ?? file.name }, key = keyOf(one.name)) {
   put([one], away.filter((it) => madeOnce(KEYS, it, () => namesIn(it).map((name) => uncopied(bareOf(name)))).includes(key)));
+}
 
 /**
  * Each file that isn't here any more is asked about beside open ones that are older.

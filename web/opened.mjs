@@ -103,8 +103,8 @@ export function gathered(taken, all) {
   const others = isJoining && !earlier ? entries : [], [unnamed, strange] = [others.filter(({ made }) => made), others.filter(isStrange)];
   const more = [...left, ...leftAs(unnamed, "left out: what is pasted has no name"), ...leftAs(strange, `left out: ${NO_LOG}`)];
   const kept = others.filter((it) => !unnamed.includes(it) && !strange.includes(it)), both = others.flatMap((it) => it.both ?? []);
-  const here = isJoining && earlier || { tables: [], both, logs: kept }, is = taken[0].made === EXAMPLE ? [IS_EXAMPLE] : [];
-  return [joined({ ...here, left: [...over, ...more] }, tables, logs, [note, ...wasEach(more), ...is].join(" "), first)];
+  const here = isJoining && earlier || { tables: [], both, logs: kept };
+  return [joined({ ...here, left: [...over, ...more] }, tables, logs, [note, ...wasEach(more)].join(" "), first)];
 }
 
 /**
@@ -227,7 +227,7 @@ export function annotate(entry, away) {
   if (!collection || !given) return;
   const left = [...wasEach(given.left), ...asOthers(given.logs, given.logs.map(({ name }) => name))];
   // what was summed up before isn't so any more
-  putAges(entry.collection = { ...collection, both: given.both, left }, given, away);
+  putAges(entry.collection = { ...collection, both: given.both, left, example: given.tables[0]?.made === EXAMPLE ? IS_EXAMPLE : undefined }, given, away);
 }
 
 /**

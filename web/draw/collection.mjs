@@ -46,7 +46,7 @@ const PROVED = "What is said of each item and log is what the library writes of 
 export function collectionView(object, opener = () => null, canLeave = () => false) {
   const { shelves, doubts, answered, of, lost, elsewhere, others, strays, open, hiding, deaf, isComplete, isUnsettled } = summaryOf(object), said = sayAll(object);
   const { counts, logs, without_log: places } = object, here = of("in place", "there"), home = (/** @type {Item} */ { place }) => printable(place ?? ""), file = printable(object.file);
-  const above = [...noResult(isUnsettled, canLeave()), ...notes([...object.left ?? [], ...answered])], asked = doubted("Logs and shelves", doubts, canLeave);
+  const above = [...object.example ? [el("p", { class: "note asked" }, object.example)] : [], ...noResult(isUnsettled, canLeave()), ...notes([...object.left ?? [], ...answered])], asked = doubted("Logs and shelves", doubts, canLeave);
   if (!logs.length) return [...above, banner(said, file), ...asked, el("p", {}, WAITS)];
   const mayBe = { "may be in": (/** @type {Item} */ item) => shelves.mayBe(item) }, at = (/** @type {Item} */ item) => shelves.at(item);
   const todo = of("missing", "misplaced", "unexpected", "returned").filter((item) => !shelves.isStray(item));
@@ -58,10 +58,9 @@ export function collectionView(object, opener = () => null, canLeave = () => fal
     send.replace("the log", () => `the log${apart.length > 1 ? "s" : ""} of ${shelves.names(apart)}`)] : byEye.length ? [] : deaf.length ? [`Nothing to do at the shelves. Whoever maintains the reader can let it show that it heard to the end ${heard}, as said below.`] : SENTENCES.steps.nothing;
   const maybe = new Set(lost.maybe), steps = [...byEye, ...object.wanted ? [ASK_MORE] : oneMore].map((it) => el("li", {}, it));
   const first = places.length ? ` that was counted. First count ${firstOf(places.map(printable))}: they may be there` : "";
-  const look = (counts.missing ? `Missing items ${logs.length > 1 || first ? `answered on no shelf${first}` : "didn't answer"}. ${LOOK_FOR}` : "") +
-    (counts.unexpected ? NOT_EXPECTED : "") + (counts.returned ? IS_BACK : "");
-  const drawn = logsOf.bind(null, object, opener);
-  return [...above, banner(said, `${file} · ${count(logs.length, "log")}${spanOf(logs)}`), ...asked,
+  const look = (counts.missing ? `Missing items ${logs.length > 1 || first ? `answered on no shelf${first}` : "didn't answer"}. ${LOOK_FOR}` : "") + (counts.unexpected ? NOT_EXPECTED : "") + (counts.returned ? IS_BACK : "");
+  const drawn = logsOf.bind(null, object, opener), dates = object.example ? ["", ""] : [object.files.filter((it) => it.file === object.file), logs].map((it) => spanOf(it));
+  return [...above, banner(said, `${file}${dates[0]} · ${count(logs.length, "log")}${dates[1]}`), ...asked,
     ...(isComplete || object.wanted) && !doubts.length ? [el("h2", {}, "At the shelves"), el("ul", { class: "steps" }, steps)] : [],
     ...isKnown ? conditions : [], ...drawn("Count again", again + (isBroken ? AGAIN_BROKEN : ""), open, true),
     ...part("At the shelves", todo, doubts.every((it) => !it.numbers), look, [shelves, at, {}, (item) => maybe.has(item) ? MAY_BE : shelves.toDo(item)]),
@@ -77,11 +76,10 @@ export function collectionView(object, opener = () => null, canLeave = () => fal
 
 /**
  * When the first and the last file were changed.
- * @param {OneLog[]} logs
+ * @param {{changed?: number}[]} files
  */
-function spanOf(logs) {
-  const all = logs.flatMap(({ changed }) => changed ?? []), ends = [...new Set([dated(Math.min(...all)), dated(Math.max(...all))])];
-  return all.length ? ` · file${logs.length > 1 ? "s" : ""} of ${ends.join(" to ")}` : "";
+function spanOf(files, all = files.flatMap(({ changed }) => changed ?? [])) {
+  return all.length ? ` of ${[...new Set([dated(Math.min(...all)), dated(Math.max(...all))])].join(" to ")}` : "";
 }
 
 /**
@@ -177,5 +175,5 @@ function recordOfAll(object) {
   const said = [count(items.length, "item"), ...states, count(logs.length, "log")].join("\u00A0· "), ifAll = isUnsettled ? ", if all logs count" : "";
   const sums = files.map((it) => el("p", {}, `${printable(it.file)}${it.changed ? ` of ${dated(it.changed)}` : ""}${it.sha256 ? " · SHA-256 " : ""}`, el("code", {}, it.sha256)));
   return el("footer", { class: "record" }, el("p", {}, said, ifAll), el("p", {}, `vicinity ${version}${ifAll}: `, el("code", {}, printable(answer))), ...sums,
-    ...isUnsettled ? [] : signed([sayAll(object).headline, ...left, ...answered], printable(file)));
+    ...isUnsettled || object.example ? [] : signed([sayAll(object).headline, ...left, ...answered], printable(file)));
 }

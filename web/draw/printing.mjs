@@ -31,7 +31,7 @@ export function unfoldOnPaper() {
  * @param {string} printed
  */
 function nameOnPaper(printed) {
-  const { title, styleSheets: [sheet] } = document, words = title.length > MOST_TITLE ? `${title.slice(0, MOST_TITLE)} …` : title;
+  const { title: of, styleSheets: [sheet] } = document, title = `${document.querySelector("main .asked") ? "No result: " : ""}${of}`, words = title.length > MOST_TITLE ? `${title.slice(0, MOST_TITLE)} …` : title;
   for (const it of document.querySelectorAll(".printed")) it.textContent = "CSSMarginRule" in window ? "" : printed;
   if (!sheet) return;
   if (sheet.cssRules.length > STYLE) sheet.deleteRule(STYLE);

@@ -155,7 +155,7 @@ export function takenForGranted(tolds) {
  * @param {boolean} isAlone
  * @param {import("../say/say.mjs").Said} said
  */
-function record({ object: { file, kind, version, sha256, answer, changed }, counts, faulty }, isAlone, { headline, answered, doubts }) {
+function record({ object: { file, kind, version, sha256, answer, changed }, counts, faulty, conflict: isBroken }, isAlone, { headline, answered, doubts }) {
   const isRefused = kind === KIND.REFUSED, parts = /** @type {[number, string, string?][]} */ ([[counts.rounds, "round"], [counts.slots, "slot"], [counts.heard, "reply", "replies"],
     [counts.quiets, "Stay Quiet"], [counts.cycles, "field cycle"], [counts.listed, "UID listed", "UIDs listed"]]);
   // of a text that isn't a log nothing but its lines is known
@@ -163,7 +163,7 @@ function record({ object: { file, kind, version, sha256, answer, changed }, coun
     ...isRefused ? [] : parts.filter(([number]) => number).map((part) => count(...part))].join("\u00A0· ");
   const sum = sha256 ? [`${changed ? ` · of ${dated(changed)}` : ""} · SHA-256 of the ${isRefused ? "file" : "log"} `, el("code", {}, sha256)] : [];
   return el("footer", { class: "record" }, ...words ? [el("p", {}, words)] : [], el("p", {}, `vicinity ${version}: `, el("code", {}, answer), ...sum),
-    ...isRefused || !isAlone || doubts.length ? [] : signed([headline, ...answered], printable(file)));
+    ...isRefused || isBroken || !isAlone || doubts.length ? [] : signed([headline, ...answered], printable(file)));
 }
 
 /**

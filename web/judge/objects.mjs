@@ -84,5 +84,6 @@ export const KIND = Object.freeze({ COMPLETE: "complete", ABSENT: "absent", UNLI
  * @property {{file: string, sha256: string, changed?: number, newer?: number, than?: string, beside?: number, text?: string}[]} files what was given beside the
  *   logs, of which only a table of places has its text
  * @property {string[]} [both] what was answered of its files, by the keys of the questions
+ * @property {string} [example] that it is one, and no count
  * @property {string[]} [left] what is said of files that were left out, or count as others, on which the answer rests
  */

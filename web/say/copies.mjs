@@ -7,13 +7,13 @@ import { count, dated, listing, printable } from "./words.mjs";
 /** @typedef {import("../judge/objects.mjs").CollectionObject} CollectionObject */
 /** @typedef {import("./shelves.mjs").Shelves} Shelves */
 /** @typedef {[string, Record<string, string>]} Button what it says and carries */
-/** @typedef {{name: string, of?: string, changed?: number, newer?: number, than?: string, beside?: number, sha256?: string, surveys?: string}} Aged a file */
+/** @typedef {{name: string, of?: string, changed?: number, newer?: number, than?: string, beside?: number, sha256?: string, surveys?: string, at?: number}} Aged a file, of a log with its number */
 /**
  * In a few words, in a sentence, and what to do; whether a headline says it that isn't complete, and
  * whether one of the logs may not count; buttons, of which each leaves out one of some logs, or says that it counts, or of which place; and
- * the numbers of logs that may be of another place; the places of which it is asked whether a log is theirs.
+ * the numbers of logs that may be of another place, and of those that may be too old; the places of which it is asked whether a log is theirs.
  * @typedef {{short: string, words: string, cure: string, isFirst?: boolean, mayNotCount?: boolean, buttons?: Button[], logs?: string[],
- *   places?: string[], numbers?: number[]}} Doubt
+ *   places?: string[], numbers?: number[], late?: number[]}} Doubt
  */
 
 /** Of how many logs each has a button, by how much files of one count may differ, in ms, and how many tags are named that two logs prove. */
@@ -147,7 +147,7 @@ export function older(files, both = []) {
     const [when, before] = [changed, newer].map((time) => dated(time, dated(changed) === dated(newer)));
     const files = firstOf(all.map((it) => nameOf(it.name)), "and", MOST_LISTED), logs = `the log${of.length > 1 ? "s" : ""} of ${firstOf(of)}`;
     const those = listing([...all.flatMap((it) => it.of ? [] : nameOf(it.name)), ...of.length ? [logs] : []]);
-    return { mayNotCount: true, cure: isOne ? COUNTS : ALL_COUNT,
+    return { mayNotCount: true, late: all.flatMap(({ at = [] }) => at), cure: isOne ? COUNTS : ALL_COUNT,
       short: isOne ? `${those} is older than one that was here` : `${those} are older than those that were here`,
       words: isOne ? `${files} of ${when} is older than ${nameOf(than)} of ${before}, which isn't here any more.`
         : `${files} are older than files that aren't here any more: ${nameOf(name)} is of ${when}, ${nameOf(than)} was of ${before}.`,
@@ -166,7 +166,7 @@ export function ofOtherDays(logs, both = []) {
   const late = logs.filter((it) => (it.changed ?? newest) < newest - HALF_A_DAY && !isAsked(it)), names = late.map(({ name, of = name }) => of);
   const key = logs.map(olderOne).join(), isOne = late.length === 1, [log, is, they] = isOne ? ["log", "is", "It is"] : ["logs", "are", "They are"];
   const other = `${isOne ? "its file" : `the file of ${names[0]}`} is of ${dated(late[0]?.changed)}, the newest of ${dated(newest)}`;
-  return !late.length ? [] : [{ short: `the ${log} of ${firstOf(names)} ${is} more than 12 hours older`, mayNotCount: true,
+  return !late.length ? [] : [{ short: `the ${log} of ${firstOf(names)} ${is} more than 12 hours older`, mayNotCount: true, late: late.flatMap(({ at = [] }) => at),
     words: `The ${log} of ${firstOf(names, "and", MOST_LISTED)} ${is} older than the others: ${other}.`,
     cure: MOVED, ...leaving(late, [[`${they} of this count`, { "data-both": key }]]) }];
 }

@@ -29,7 +29,7 @@ const DENIED = "Its reply may have been lost, or the list is that of another cou
 export function doubtsOf(object, shelves) {
   const namesIn = (/** @type {Doubt[]} */ doubts) => doubts.flatMap(({ logs = [] }) => logs), { both, files, logs } = object;
   const first = [...copies(object, shelves), ...ofAPlace(object)], { doubts } = askedOf(first, both), those = namesIn(doubts);
-  const alike = same(object, those), aged = logs.map((log, at) => ({ ...log, of: shelves.name(at) }));
+  const alike = same(object, those), aged = logs.map((log, at) => ({ ...log, at, of: shelves.name(at) }));
   return askedOf([...first, ...alike, ...interchanged(object), ...ofPlaces(object, those, doubts.flatMap(({ places = [] }) => places)),
     ...notHere(object), ...cutOff(object), ...older([...files.map((it) => ({ ...it, name: it.file })), ...aged], both),
     ...ofOtherDays(aged, both), ...ruledOut(object, shelves), ...withoutAnswer(object, shelves),

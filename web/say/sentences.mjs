@@ -66,14 +66,16 @@ export const SENTENCES = {
     "packed": ["^(?:\u001F\uFFFD\b|BZh|\uFFFD7zXZ|7z\uFFFD\uFFFD'|Rar!|\\(\uFFFD/\uFFFD)", ", but a packed file", "Unpack it, and open what was in it."],
     "trace": ["^\\s*(?:\\[[+=!#?|-]\\] |\\[(?:usb|bt|fpc)|pm3 |proxmark|Recorded activity|Start \\| +End \\| Src)", ", but a trace of a Proxmark",
       "It hasn't the slots in which no tag answered, so it can't show whether a tag was missed.", "Ask whoever maintains a reader for a log: docs/READERS.md of vicinity says which readers can write one, and how."],
+    "frames": ["^(?:\\W*[\\d:.,T-]+Z?\\W+)?(?:\\W*(?:TX|RX|sent|recv|received|Rdr|Tag|Reader|->|<-|[<>])\\W*)?(?:[0-9A-F]{2} ){3}", ", but seems to be a trace, or a reader's own log", "Counting again gives the same: ask whoever maintains the reader to have it write logs (docs/READERS.md of vicinity says how)."],
     "json": ["^\\s*(?:\\{\\s*[\"}]|\\[\\s*[{\"\\[]|[{\\[]\\s*$)", ", but JSON, which programs exchange", "Open the log of which it was written, or a table (CSV)."],
     "turned": ["^\\W{0,3}(?!E0)(?:[0-9A-F]{2}[ :.-]?){7}E0\\W{0,3}$", ", but a list of tag numbers whose bytes are in the opposite order, with E0 last",
       "If it is what should be here: turn the bytes of each number round, so that E0 comes first, write uid as the first line, and open it with the logs."],
-    "list": ["^\\W{0,3}(?:uid|E0(?:[ :.-]?[0-9A-F]{2}){7})\\W{0,3}$", ", but a list of tag numbers", "If it is what should be here: write uid as its first line, and open it together with the logs.",
+    "list": ["^\\W{0,3}(?:uid|(?:0x)?E0(?:[ :.-]?[0-9A-F]{2}){7})\\W{0,3}$", ", but a list of tag numbers", "If it is what should be here: write uid as its first line, and open it together with the logs.",
       "By itself it can't show whether a tag was missed: it says which tags were read, not what was asked."],
     "binary": ["[\u0000\uFFFD]", ": it isn't text in UTF-8", "If it is text, in UTF-16 for example, save it as ASCII or UTF-8."],
     "table": ["[,;\\t|]", "", "If it is a table of what should be here: name the column of tag numbers 'uid' in its first row, and open it with the logs."],
-    "text": ["", "", "Choose another file, or count again."]
+    "empty": ["^$", ": its first line is empty", "Choose another file, or copy it again."],
+    "text": ["", ", but another text: a log begins with 'vicinity-log'", "If the reader's software wrote it, counting again gives the same: ask whoever maintains the reader to have it write logs (docs/READERS.md of vicinity says how)."]
   },
   "failures": {
     "none": "this browser doesn't run what judges it", "memory": "there isn't enough memory for it: close other tabs and programs, and open it again",

@@ -16,10 +16,11 @@ import { count, listing } from "./words.mjs";
  *   be, where each log of its place may not count, has nothing that answered, or replies in some logs that may have hidden others */
 /**
  * What is worked out of an object once: how many items are here, the items by their states, those that are missing by what they may be in
- * spite of their logs, and of those that aren't known which the logs of their own places rule out; by their numbers the logs to count again, and of the others those in whose fields tags could be if
- * replies were hidden, and if the reader went deaf; whether anything rests on it, some log may not count, and that is asked.
+ * spite of their logs, and of those that aren't known which the logs of their own places rule out; by their numbers the logs of which
+ * something is asked, those to count again, and of the others those in whose fields tags could be if replies were hidden, and if the reader
+ * went deaf; whether anything rests on it, some log may not count, and that is asked.
  * @typedef {{here: number, isComplete: boolean, shelves: Shelves, doubts: import("./copies.mjs").Doubt[], answered: string[], open: number[],
- *   of: (...states: State[]) => Item[], lost: Lost, elsewhere: Item[], others: Item[], strays: Item[],
+ *   of: (...states: State[]) => Item[], unsure: Set<number>, lost: Lost, elsewhere: Item[], others: Item[], strays: Item[],
  *   hiding: number[], deaf: number[], isResting: boolean, isUnsettled: boolean, isAsked: boolean}} Summary
  */
 
@@ -41,9 +42,9 @@ export const summaryOf = (object) => madeOnce(SUMMARIES, object, () => {
   const elsewhere = unknown.filter((item) => shelves.isElsewhere(item)), not = new Set(elsewhere);
   const those = (/** @type {(log: OneLog) => unknown} */ is) => [...logs.keys()].filter((at) => is(logs[at]));
   const { doubts, answered } = doubtsOf(object, shelves), unsettled = doubts.filter(({ mayNotCount }) => mayNotCount);
-  const lost = lostOf(object, shelves, of("missing"), new Set(doubts.flatMap(({ numbers = [] }) => numbers)));
+  const unsure = new Set(doubts.flatMap(({ numbers = [], late = [] }) => [...numbers, ...late])), lost = lostOf(object, shelves, of("missing"), unsure);
   return { here: counts["in place"] + counts.there, isComplete: status === 0 && answer.startsWith(KIND.COMPLETE), shelves, doubts, answered,
-    of, lost, elsewhere, others: unknown.filter((item) => !not.has(item)), strays: of("misplaced").filter((item) => shelves.isStray(item)),
+    of, unsure, lost, elsewhere, others: unknown.filter((item) => !not.has(item)), strays: of("misplaced").filter((item) => shelves.isStray(item)),
     open: those(isOpen), hiding: those((log) => log.hidden && !isOpen(log)), deaf: those((log) => log.deaf && !isOpen(log)),
     isResting: margin !== undefined || counts.missing > 0 || elsewhere.length > 0,
     isUnsettled: unsettled.length > 0, isAsked: unsettled.some(({ isFirst }) => isFirst) };
@@ -101,8 +102,8 @@ export function headlineOf(object) {
  * @param {CollectionObject} object
  */
 function lacking(object) {
-  const { here, shelves, doubts, of, lost, elsewhere, others, strays, open, isAsked, isUnsettled } = summaryOf(object), { logs } = object;
-  const again = shelves.sorted(open), unsure = new Set(doubts.flatMap(({ numbers = [] }) => numbers)), heard = lost.deaf.length ? ` if ${shelves.readers(lost.deaf)} heard to the end` : "";
+  const { here, shelves, doubts, of, unsure, lost, elsewhere, others, strays, open, isAsked, isUnsettled } = summaryOf(object), { logs } = object;
+  const again = shelves.sorted(open), heard = lost.deaf.length ? ` if ${shelves.readers(lost.deaf)} heard to the end` : "";
   const strayed = `heard in ${new Set(strays.flatMap((item) => item.certain_in)).size > 1 ? "logs" : "a log"} of no place`;
   const moved = grouped(of("misplaced").filter((it) => !shelves.isStray(it)), (it) => it.certain_in.every((at) => unsure.has(at) || logs[at].left_over));
   const parts = /** @type {[Item[] | undefined, string, boolean?][]} */ ([[lost.known, `missing${heard}`, true], [lost.maybe, "may be missing", true],
@@ -118,8 +119,7 @@ function lacking(object) {
   const all = !isMore || !here ? "" : here === 1 ? "the one expected item" : `all ${count(here, "expected item")}`;
   const allHere = !all || isAsked ? [] : [`${all} ${here === 1 ? "is" : "are"} ${isUnsettled ? "in some log" : "here"}`];
   const first = [...allHere, ...said.length ? [listing(said)] : []].join("; "), hidden = lost.hiding.length ? [`stronger replies may have hidden ${lost.maybe.length > 1 ? "them" : "it"} ${shelves.fields(lost.hiding)}`] : [];
-  const whatToCount = again.length ? [`${call}${all && first ? ", as others may be there" : ""}`] : [];
-  const text = [first, ...hidden, ...whatToCount, ...doubts.flatMap(({ short, isFirst }) => isFirst ? [short] : [])].filter((it) => it).join("; ");
+  const text = [first, ...hidden, ...again.length ? [`${call}${all && first ? ", as others may be there" : ""}`] : [], ...doubts.flatMap(({ short, isFirst, late }) => isFirst || late ? [short] : [])].filter((it) => it).join("; ");
   return `${text[0].toUpperCase()}${text.slice(1)}.${all && isAsked ? ` Together the logs have ${all}.` : ""}`;
 }
 
