@@ -200,7 +200,7 @@ def foreign(page, words):
     page.until("h1", "isn't a log")
     page.until("#told", words)
     is_file = "This file isn't a log" in page.said()
-    assert ("whoever maintains the reader" in page.said()) != is_file
+    assert ("For whoever maintains the reader" in page.said()) != is_file
     assert "SHA-256 of the file" in page.texts(".record")[0]
     assert page.texts("h2")[0] == "What to do"
 

@@ -695,7 +695,7 @@ def test_a_log_joins_a_collection_or_replaces_that_of_its_place(page):
     assert page.texts(".note") == ["B.log was replaced by what you opened under the same name."]
     assert look(page) == "yes"
     page.press("#back")
-    page.until("h1", empty)
+    page.until("h1", f"{empty[:-1]}; the log of B is older than one that was here.")
     assert page.run(FOCUS) == page.texts("h1")[0]
     page.press("#back")
     page.until("h1", "1 item not counted; no log of B.")
@@ -791,7 +791,7 @@ def test_a_pasted_table_joins_what_is_here(page):
     """Which is said."""
     drop(page, {"A.log": field(UID_A), "B.log": field(UID_B)})
     page.run(PASTE, BOTH.decode())
-    page.until(".banner.yes", "pasted text · 2 logs")
+    page.until(".banner.yes", "pasted text of ")
     assert page.texts(".note") == ["pasted text joined the logs that were here."]
 
 

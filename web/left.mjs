@@ -86,7 +86,8 @@ export function putAges(object, { tables, logs }, away) {
     const file = byName.get(into.name);
     return file && JUDGED.set(file.id, Object.assign(into, { was: file.was })) ? { into, file, name: file.was ?? into.name } : [];
   });
-  put([...tables.map((file, at) => ({ into: object.files[at], file, name: file.name })), ...ofLogs], away);
+  // that a place has no log is said of all logs
+  put([...tables.map((file, at) => ({ into: object.files[at], file, name: file.name })), ...ofLogs], away.filter(({ id }) => !object.without_log.includes(JUDGED.get(id)?.place ?? "")));
 }
 
 /**

@@ -163,7 +163,7 @@ function record({ object: { file, kind, version, sha256, answer, changed }, coun
     ...isRefused ? [] : parts.filter(([number]) => number).map((part) => count(...part))].join("\u00A0· ");
   const sum = sha256 ? [`${changed ? ` · of ${dated(changed)}` : ""} · SHA-256 of the ${isRefused ? "file" : "log"} `, el("code", {}, sha256)] : [];
   return el("footer", { class: "record" }, ...words ? [el("p", {}, words)] : [], el("p", {}, `vicinity ${version}: `, el("code", {}, answer), ...sum),
-    ...isRefused || isBroken || !isAlone || doubts.length ? [] : signed([headline, ...answered], printable(file)));
+    ...isRefused || !isAlone || doubts.length ? [] : signed([headline, ...answered], printable(file)).slice(isBroken ? 2 : 0));
 }
 
 /**
