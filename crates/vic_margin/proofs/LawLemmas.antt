@@ -56,10 +56,10 @@ unsettled_margin lines m w v h =
     let le = h.margin.1 0 (some_possible (entries lines) some.0 v.0 some.1 some.2) in
     omega (arith, le)
 
-unsettled_of : (es : List Entry) (k : BitMask) → IsPossible es → IsOfMargin es (listed es) 0 k → IsUnsettled es k
+pub unsettled_of : (es : List Entry) (k : BitMask) → IsPossible es → IsOfMargin es (listed es) 0 k → IsUnsettled es k
 unsettled_of es k possible h = (h.short, h.fits, λ u is lies. ((possible_never es u is possible).1 ((no_margin es u).0 (h.margin u is lies)), h.unlisted u is lies))
 
-of_unsettled : (es : List Entry) (k : BitMask) → IsPossible es → IsUnsettled es k → IsOfMargin es (listed es) 0 k
+pub of_unsettled : (es : List Entry) (k : BitMask) → IsPossible es → IsUnsettled es k → IsOfMargin es (listed es) 0 k
 of_unsettled es k possible h = record {
   short = h.0;
   fits = h.1;

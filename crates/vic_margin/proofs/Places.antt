@@ -5,7 +5,10 @@ use Rattle.std.proofs.lemmas.List.{map-append, take_more}
 use Rattle.std.proofs.lemmas.Map.Keys.{below_from_sorted, sorted_from_strictly_increasing}
 use Rattle.std.specs.List.Sorted.{IsStrictlyIncreasing}
 use Rattle.vic_log.specs.Order.{entries}
+use Rattle.vic_log.specs.declared.entry.Entry.{Entry}
 use Rattle.vic_log.specs.declared.entry.LogLine.{LogLine}
+use Rattle.vic_walk.specs.Steps.{AreLogParts}
+use Rattle.vic_walk.specs.declared.log_parts.LogParts.{LogParts}
 
 pub entries_long : (lines : List LogLine) → length (entries lines) ≡ length lines
 entries_long lines = length-map lines (λ (l : LogLine). l.item)
@@ -25,6 +28,16 @@ few_parts bs borders =
       | inl some ↦ let h = at_least bs (length bs - 1) borders.rising (omega (arith, some)) in omega (arith, h, last)
       | inr none ↦ omega (arith, none)
     ]
+
+-- parts that were taken apart and put together again
+pub same_parts : (es : List Entry) (c d : LogParts) → d.parts ≡ c.parts → d.steps.items ≡ c.steps.items → AreLogParts es c → AreLogParts es d
+same_parts es c d parts steps h = record {
+  borders = rw parts h.borders;
+  cut = rw parts h.cut;
+  within = rw steps h.within;
+  list = rw steps h.list;
+  steps = rw (parts, steps) h.steps;
+}
 
 -- what a function makes of one element more
 pub map_taken : (f : ℕ → ℕ) (xs : List ℕ) (i x y : ℕ) → i < length xs → x ≡ get_or xs i x → y ≡ f x → map f (take i xs) ++ y ∷ [] ≡ map f (take (i + 1) xs)

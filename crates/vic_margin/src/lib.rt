@@ -20,4 +20,4 @@ mod weakest;
 pub use answer::{Margin, Readings, Weakest};
 pub use cautious::{readings, readings_of_complete};
 pub use margins::overlooked;
-pub use weakest::{margin, weakest_besides};
+pub use weakest::{margin, weakest_besides, weakest_by_keys};

@@ -13,7 +13,7 @@ use std::alloc::{AllocError, Global};
 use vic_frame::Uid;
 use vic_frame::low_bits_first::key;
 use vic_log::Log;
-use vic_walk::{LogLines, LogParts, Parts};
+use vic_walk::{LogLines, LogParts, Parts, Step};
 
 /// The parts of the keys of a log, and the margin of the UIDs of each.
 #[derive(Drop)]
@@ -31,7 +31,7 @@ pub fn overlooked(alloc: Global, log: &Log, uids: &[Uid]) -> Result<Vec<u32>, Al
     ensures { IfOk result (λ v. v.items ≡ map (margin_of (entries log.now.lines)) uids.now) }
 {
     let log_parts = LogParts::of(alloc, &LogLines::of(log))?;
-    let margins = part_margins(alloc, log, log_parts)?;
+    let (margins, _steps) = part_margins(alloc, log, log_parts)?;
     let mut found = Vec::with_capacity(alloc, uids.len())?;
     for uid in uids {
         found.push(margins.each[margins.parts.at(key(*uid))])?;
@@ -39,14 +39,17 @@ pub fn overlooked(alloc: Global, log: &Log, uids: &[Uid]) -> Result<Vec<u32>, Al
     Ok(found)
 }
 
-/// The margin of the UIDs of each part of a log.
+/// The margin of the UIDs of each part of a log, by its parts; with the steps, by which these can
+/// be used again.
 pub(crate) fn part_margins<'a>(
     alloc: Global,
     log: &'a Log,
     log_parts: LogParts,
-) -> Result<PartMargins<'a>, AllocError>
+) -> Result<(PartMargins<'a>, Vec<Step>), AllocError>
     requires { AreLogParts (entries log.now.lines) log_parts }
-    ensures { IfOk result (λ m. m.log.now ≡ log.now) }
+    ensures log { IfOk result (λ r. r.0.log.now ≡ log.now) }
+    ensures parts { IfOk result (λ r. r.0.parts ≡ log_parts.parts) }
+    ensures steps { IfOk result (λ r. r.1.items ≡ log_parts.steps.items) }
 {
     let lines = LogLines::of(log);
     let LogParts { parts, steps } = log_parts;
@@ -57,5 +60,5 @@ pub(crate) fn part_margins<'a>(
     }
     let each = tally.margins();
     let parts = parts.indexed(alloc)?;
-    Ok(PartMargins { log, parts, each })
+    Ok((PartMargins { log, parts, each }, steps))
 }

@@ -76,7 +76,7 @@ fn measured(
 {
     let listed = listed_uids(alloc, log.lines())?;
     let keys = SortedKeys::of(alloc, listed.as_slice())?;
-    let weakest = weakest_of(alloc, &part_margins(alloc, &log, log_parts)?, &keys)?;
+    let (weakest, _log_parts) = weakest_by_keys(alloc, &log, log_parts, &keys)?;
     let readings = readings_if_complete(alloc, &verdict, log, &keys)?;
     Ok(Margin {
         verdict,
@@ -97,7 +97,27 @@ pub fn weakest_besides(
     ensures { IfOk result (IsWeakestBesides (entries log.now.lines) uids.now) }
 {
     let keys = SortedKeys::of(alloc, uids)?;
-    weakest_of(alloc, &part_margins(alloc, log, log_parts)?, &keys)
+    let (weakest, _log_parts) = weakest_by_keys(alloc, log, log_parts, &keys)?;
+    Ok(weakest)
+}
+
+/// The same, by the keys of the UIDs; with the parts, to be used again.
+pub fn weakest_by_keys(
+    alloc: Global,
+    log: &Log,
+    log_parts: LogParts,
+    keys: &SortedKeys,
+) -> Result<(Weakest, LogParts), AllocError>
+    requires parts { AreLogParts (entries log.now.lines) log_parts }
+    requires keys { (us : List ℕ) × AreKeysOf keys.now us }
+    ensures weakest { IfOk result (λ r. (us : List ℕ) → AreKeysOf keys.now us
+        → IsWeakestBesides (entries log.now.lines) us r.0) }
+    ensures parts { IfOk result (λ r. AreLogParts (entries log.now.lines) r.1) }
+{
+    let (margins, steps) = part_margins(alloc, log, log_parts)?;
+    let weakest = weakest_of(alloc, &margins, keys)?;
+    let PartMargins { parts, .. } = margins;
+    Ok((weakest, LogParts { parts, steps }))
 }
 
 /// The margin of a log beside the UIDs with some keys, and the first mask of UIDs that have it.

@@ -5,5 +5,6 @@ mod FieldMade
 mod Asked
 mod AskingLaws
 mod Completes
+mod SameParts
 mod Within
 mod Searched

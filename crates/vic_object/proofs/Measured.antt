@@ -2,8 +2,7 @@
 use Rattle.std.proofs.Common.{◌≡◌, ◌↔◌, ◌∙◌, ℕ, Bool, true, false, not, ◌&&◌, List, Option, Some, None, refl, sym}
 use Rattle.std.specs.Prelude.{MatchOption}
 use Rattle.std.proofs.lemmas.Bool.{and_parts, false_from_ne_true}
-use Rattle.vic_frame.specs.Uids.{IsUid, has}
-use Rattle.vic_frame.specs.Masks.{BitMask}
+use Rattle.vic_frame.specs.Uids.{IsUid}
 use Rattle.vic_log.proofs.Sets.{IsUid-member}
 use Rattle.vic_log.specs.Order.{entries}
 use Rattle.vic_log.specs.declared.entry.Entry.{Entry}
@@ -13,25 +12,7 @@ use Rattle.vic_tree.specs.Ranges.{is_open_in}
 use Rattle.vic_verdict.proofs.Decide.{IsPossibleUid-iff}
 use Rattle.vic_verdict.specs.Facts.{AreOpenAndCertain}
 use Rattle.vic_verdict.specs.Possible.{IsCertainUid, IsPossible, IsPossibleUid}
-use Rattle.vic_margin.specs.Margins.{IsMarginOfSome, IsOfMargin, IsWeakestBesides}
-use Rattle.vic_margin.specs.declared.answer.Weakest.{Weakest}
 use Rattle.vic_object.specs.inner.Certain.{AreCertainKeys}
-
--- ---- a margin beside a list is one beside its members
-
-some_same : (es : List Entry) (us vs : List ℕ) (n : ℕ) → ((u : ℕ) → has us u ≡ has vs u) → IsMarginOfSome es us n → IsMarginOfSome es vs n
-some_same es us vs n h s = record { uid = s.uid; is_uid = s.is_uid; unlisted = sym (h s.uid) ∙ s.unlisted; margin = s.margin }
-
-mask_same : (es : List Entry) (us vs : List ℕ) (n : ℕ) (m : BitMask) → ((u : ℕ) → has us u ≡ has vs u) → IsOfMargin es us n m → IsOfMargin es vs n m
-mask_same es us vs n m h o = record { short = o.short; fits = o.fits; unlisted = λ u i l. sym (h u) ∙ o.unlisted u i l; margin = o.margin }
-
-pub weakest_same : (es : List Entry) (us vs : List ℕ) (w : Weakest) → ((u : ℕ) → has us u ≡ has vs u) → IsWeakestBesides es us w → IsWeakestBesides es vs w
-weakest_same es us vs w h b =
-    let back : (u : ℕ) → has vs u ≡ has us u = λ u. sym (h u) in
-    record {
-      margin = (some_same es us vs w.margin h b.margin.0, λ n s. b.margin.1 n (some_same es vs us n back s));
-      mask = (mask_same es us vs w.margin w.mask h b.mask.0, λ m o. b.mask.1 m (mask_same es vs us w.margin m back o));
-    }
 
 -- ---- whether a reading settles a field
 

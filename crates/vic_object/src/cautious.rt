@@ -1,6 +1,6 @@
 //! The two cautious readings of a log, the hidden and the deaf one, against the same list.
 
-ghost use Rattle.std.specs.Prelude.{◌≡◌, ◌↔◌, ℕ, IfOk, List, MatchOption, true, false};
+ghost use Rattle.std.specs.Prelude.{◌≡◌, ◌↔◌, ℕ, IfOk, IfSome, List, MatchOption, true, false};
 ghost use Rattle.vic_log.specs.Deaf.{deaf_entries, hidden_entries};
 ghost use Rattle.vic_log.specs.Order.{entries};
 ghost use Rattle.vic_log.specs.declared.entry.LogLine.{LogLine as LogLineValue};
@@ -11,37 +11,40 @@ ghost use Rattle.vic_verdict.specs.Facts.{AreFactsOf};
 ghost use Rattle.vic_verdict.specs.Verdict.{IsVerdict};
 ghost use Rattle.vic_verdict.specs.declared.judging.Verdict.TheVariants.{Complete};
 ghost use Rattle.vic_margin.specs.Margins.{IsWeakest};
-ghost use Rattle.vic_margin.specs.Readings.{IsFirstOpened};
 ghost use Rattle.vic_object.specs.Told.{IsCautiousReading, IsToldBy, IsWeakestIfComplete};
 ghost use Rattle.vic_object.specs.inner.Certain.{AreCertainKeys};
 ghost use Rattle.vic_object.specs.inner.Cautious.{AreHiddenOrDeaf};
 
 use crate::told::CautiousReading;
 use std::alloc::{AllocError, Global};
-use vic_frame::Mask;
 use vic_log::Log;
-use vic_margin::{Weakest, readings_of_complete, weakest_besides};
+use vic_margin::{Weakest, weakest_by_keys};
 use vic_tree::{OpenSet, RangeSet, SortedKeys};
 use vic_verdict::{Facts, Verdict, facts_and_parts_of, listed_uids, verdict_of_facts};
-use vic_walk::{LogLines, LogParts};
+use vic_walk::LogParts;
 
 /// What the hidden and the deaf reading of a log tell, where the log itself has this verdict and
-/// these certain UIDs.
+/// these certain UIDs. The parts are at hand if its list is complete.
 pub(crate) fn cautious_readings(
     alloc: Global,
     log: Log,
     verdict: &Verdict,
     certain: &Option<SortedKeys>,
+    log_parts: Option<LogParts>,
 ) -> Result<(CautiousReading, CautiousReading), AllocError>
     requires verdict { IsVerdict log.lines verdict.now }
     requires certain { AreCertainKeys log.lines certain.now }
+    requires parts { IfSome log_parts (AreLogParts (entries log.lines)) }
     ensures hidden { IfOk result (λ r.
         IsCautiousReading log.lines (hidden_entries (entries log.lines)) verdict.now r.0) }
     ensures deaf { IfOk result (λ r.
         IsCautiousReading log.lines (deaf_entries (entries log.lines)) verdict.now r.1) }
 {
+    let Some(log_parts) = log_parts else {
+        return judged_readings(alloc, log, verdict, certain);
+    };
     match *verdict {
-        Verdict::Complete { count } => opened_readings(alloc, log, count),
+        Verdict::Complete { count } => complete_readings(alloc, log, count, log_parts),
         Verdict::Impossible { .. }
         | Verdict::Absent(_)
         | Verdict::Unlisted(_)
@@ -74,14 +77,16 @@ fn judged_readings(
     Ok((hidden, deaf))
 }
 
-/// The same, if the list of the log is complete, and has so many UIDs: by what each reading opens,
-/// which one walk finds for both.
-fn opened_readings(
+/// The same, if the list of the log is complete, and has so many UIDs: by the margin of each
+/// reading, which has the parts of the log.
+fn complete_readings(
     alloc: Global,
     log: Log,
     count: u32,
+    log_parts: LogParts,
 ) -> Result<(CautiousReading, CautiousReading), AllocError>
-    requires { IsVerdict log.lines (Complete count) }
+    requires verdict { IsVerdict log.lines (Complete count) }
+    requires parts { AreLogParts (entries log.lines) log_parts }
     ensures hidden { IfOk result (λ r.
         IsCautiousReading log.lines (hidden_entries (entries log.lines)) (Complete count) r.0) }
     ensures deaf { IfOk result (λ r.
@@ -90,51 +95,39 @@ fn opened_readings(
     let falls_silent = log.ends_silent();
     let listed = listed_uids(alloc, log.lines())?;
     let keys = SortedKeys::of(alloc, listed.as_slice())?;
-    let (hidden_log, readings) = readings_of_complete(alloc, log, &keys)?;
-    let hidden = opened_reading(alloc, &hidden_log, count, readings.hidden)?;
+    let hidden_log = log.into_hidden();
+    let (weakest, log_parts) = weakest_by_keys(alloc, &hidden_log, log_parts, &keys)?;
+    let hidden = reading_by_margin(count, weakest);
     if !falls_silent {
         let deaf = hidden;
         return Ok((hidden, deaf));
     }
-    let deaf = opened_reading(alloc, &hidden_log.into_deaf(), count, readings.deaf)?;
+    let (weakest, _) = weakest_by_keys(alloc, &hidden_log.into_deaf(), log_parts, &keys)?;
+    let deaf = reading_by_margin(count, weakest);
     Ok((hidden, deaf))
 }
 
-/// What a reading of a log with a complete list tells, by the first mask of UIDs that it leaves
-/// open beside the log.
-fn opened_reading(
-    alloc: Global,
-    log: &Log,
-    count: u32,
-    opened: Option<Mask>,
-) -> Result<CautiousReading, AllocError>
-    ensures { IfOk result (λ r. (lines : List LogLineValue)
-        → AreHiddenOrDeaf (entries log.now.lines) (entries lines) → IsVerdict lines (Complete count)
-        → IsFirstOpened (entries log.now.lines) (entries lines) opened
-        → IsToldBy lines log.now.lines (Complete count) r) }
+/// What a reading of a log with a complete list tells, by its margin: a UID that isn't listed is
+/// possible if it was overlooked nowhere.
+fn reading_by_margin(count: u32, weakest: Weakest) -> CautiousReading
+    ensures { (lines others : List LogLineValue)
+        → AreHiddenOrDeaf (entries others) (entries lines) → IsVerdict lines (Complete count)
+        → IsWeakest (entries others) weakest → IsToldBy lines others (Complete count) result }
 {
-    match opened {
-        Some(mask) => Ok(CautiousReading {
-            verdict: Verdict::Unsettled(mask),
+    if weakest.margin == 0 {
+        return CautiousReading {
+            verdict: Verdict::Unsettled(weakest.mask),
             holds: false,
             weakest: None,
             settled: false,
-        }),
-        None => Ok(CautiousReading {
-            verdict: Verdict::Complete { count },
-            holds: true,
-            weakest: Some(weakest_of_log(alloc, log)?),
-            settled: true,
-        }),
+        };
     }
-}
-
-/// The margin of a log, and the first mask of UIDs that have it.
-fn weakest_of_log(alloc: Global, log: &Log) -> Result<Weakest, AllocError>
-    ensures { IfOk result (IsWeakest (entries log.now.lines)) }
-{
-    let log_parts = LogParts::of(alloc, &LogLines::of(log))?;
-    weakest_by_parts(alloc, log, log_parts)
+    CautiousReading {
+        verdict: Verdict::Complete { count },
+        holds: true,
+        weakest: Some(weakest),
+        settled: true,
+    }
 }
 
 /// What a reading of a log tells, where the log itself has this verdict and these certain UIDs. It
@@ -179,10 +172,11 @@ fn reading_of_facts(
 {
     let settled = is_settled(alloc, &facts.open, certain)?;
     let other = verdict_of_facts(alloc, facts.open, &facts.certain, log)?;
+    let (weakest, _) = weakest_if_complete(alloc, &other, log, log_parts)?;
     Ok(CautiousReading {
         verdict: other,
         holds: is_same(&other, verdict),
-        weakest: weakest_if_complete(alloc, &other, log, log_parts)?,
+        weakest,
         settled,
     })
 }
@@ -225,31 +219,42 @@ fn has_none_besides(alloc: Global, open: &RangeSet, keys: &SortedKeys) -> Result
     }
 }
 
-/// The margin of a log with this verdict, if its list is complete.
+/// The margin of a log with this verdict, if its list is complete, and its parts, to be used again.
 pub(crate) fn weakest_if_complete(
     alloc: Global,
     verdict: &Verdict,
     log: &Log,
     log_parts: LogParts,
-) -> Result<Option<Weakest>, AllocError>
+) -> Result<(Option<Weakest>, Option<LogParts>), AllocError>
     requires { AreLogParts (entries log.now.lines) log_parts }
-    ensures { IfOk result (IsWeakestIfComplete (entries log.now.lines) verdict.now) }
+    ensures weakest { IfOk result (λ r.
+        IsWeakestIfComplete (entries log.now.lines) verdict.now r.0) }
+    ensures parts { IfOk result (λ r. IfSome r.1 (AreLogParts (entries log.now.lines))) }
 {
     match *verdict {
-        Verdict::Complete { .. } => Ok(Some(weakest_by_parts(alloc, log, log_parts)?)),
+        Verdict::Complete { .. } => {
+            let (weakest, log_parts) = weakest_by_parts(alloc, log, log_parts)?;
+            Ok((Some(weakest), Some(log_parts)))
+        }
         Verdict::Impossible { .. }
         | Verdict::Absent(_)
         | Verdict::Unlisted(_)
         | Verdict::Unsettled(_)
-        | Verdict::Doubtful(_) => Ok(None),
+        | Verdict::Doubtful(_) => Ok((None, None)),
     }
 }
 
-/// The margin of a log, and the first mask of UIDs that have it, by its parts.
-fn weakest_by_parts(alloc: Global, log: &Log, log_parts: LogParts) -> Result<Weakest, AllocError>
+/// The margin of a log, and the first mask of UIDs that have it, by its parts; with these.
+fn weakest_by_parts(
+    alloc: Global,
+    log: &Log,
+    log_parts: LogParts,
+) -> Result<(Weakest, LogParts), AllocError>
     requires { AreLogParts (entries log.now.lines) log_parts }
-    ensures { IfOk result (IsWeakest (entries log.now.lines)) }
+    ensures weakest { IfOk result (λ r. IsWeakest (entries log.now.lines) r.0) }
+    ensures parts { IfOk result (λ r. AreLogParts (entries log.now.lines) r.1) }
 {
     let listed = listed_uids(alloc, log.lines())?;
-    weakest_besides(alloc, log, log_parts, listed.as_slice())
+    let keys = SortedKeys::of(alloc, listed.as_slice())?;
+    weakest_by_keys(alloc, log, log_parts, &keys)
 }

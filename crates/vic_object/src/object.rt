@@ -39,9 +39,9 @@ impl Judgement for LogTold {
     ghost tells = { λ lines t h. report_begins lines t.report h.report };
 }
 
-/// The object of the text of a log, and the status of `check`. The log is judged once, and
-/// once more in each of its two cautious readings; these are walked over together if its list is
-/// complete. It fails only if memory is refused.
+/// The object of the text of a log, and the status of `check`. The log is judged once, and once
+/// more in each of its two cautious readings, unless its list is complete: then their margins say
+/// what they tell. It fails only if memory is refused.
 pub fn object_of(alloc: Global, text: &[u8]) -> Result<WrittenText, AllocError>
     ensures { IfOk result (λ w. IsJsonOf text.now w.text.items w.status) }
 {
@@ -63,10 +63,11 @@ fn told_of_log(alloc: Global, log: Log) -> Result<LogTold, AllocError>
         field,
         certain_keys,
         weakest,
+        log_parts,
     } = plain_reading(alloc, &log)?;
     let verdict = report.verdict();
     let findings = findings_told(alloc, &log, &report)?;
-    let (hidden, deaf) = cautious_readings(alloc, log, &verdict, &certain_keys)?;
+    let (hidden, deaf) = cautious_readings(alloc, log, &verdict, &certain_keys, log_parts)?;
     Ok(LogTold {
         report,
         findings,

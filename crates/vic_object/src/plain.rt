@@ -1,6 +1,6 @@
 //! The plain reading of a log: its report, what it says of its field, and its margin.
 
-ghost use Rattle.std.specs.Prelude.{◌≡◌, ◌≤◌, [], IfOk, List, map};
+ghost use Rattle.std.specs.Prelude.{◌≡◌, ◌≤◌, [], IfOk, IfSome, List, map};
 ghost use Rattle.vic_log.specs.Order.{entries};
 ghost use Rattle.vic_tree.specs.Keys.{AreKeysOf};
 ghost use Rattle.vic_tree.specs.Ranges.{is_open_in};
@@ -27,13 +27,14 @@ use vic_verdict::{Facts, facts_and_parts_of};
 use vic_walk::LogParts;
 
 /// What a log says as it stands: the report on it, what it says of its field, the keys of its
-/// certain UIDs, if it is possible, and its margin, if its list is complete.
+/// certain UIDs, if it is possible, and its margin and its parts, if its list is complete.
 #[derive(Drop)]
 pub(crate) struct PlainReading {
     pub report: LogReport,
     pub field: FieldTold,
     pub certain_keys: Option<SortedKeys>,
     pub weakest: Option<Weakest>,
+    pub log_parts: Option<LogParts>,
 }
 
 /// The plain reading of a log. It judges once, and where the log is impossible once more, to try
@@ -44,6 +45,8 @@ pub(crate) fn plain_reading(alloc: Global, log: &Log) -> Result<PlainReading, Al
     ensures certain_keys { IfOk result (λ plain. AreCertainKeys log.now.lines plain.certain_keys) }
     ensures weakest { IfOk result (λ plain. spec.IsWeakestIfComplete (entries log.now.lines)
         (verdict_of plain.report) plain.weakest) }
+    ensures parts { IfOk result (λ plain. IfSome plain.log_parts
+        (AreLogParts (entries log.now.lines))) }
 {
     match facts_and_parts_of::<RangeSet>(alloc, log)? {
         Ok((facts, log_parts)) => plain_of_facts(alloc, log, facts, log_parts),
@@ -54,6 +57,7 @@ pub(crate) fn plain_reading(alloc: Global, log: &Log) -> Result<PlainReading, Al
                 field: no_field(alloc),
                 certain_keys: None,
                 weakest: None,
+                log_parts: None,
             })
         }
     }
@@ -89,16 +93,19 @@ fn plain_of_facts(
     ensures certain_keys { IfOk result (λ plain. AreCertainKeys log.now.lines plain.certain_keys) }
     ensures weakest { IfOk result (λ plain. spec.IsWeakestIfComplete (entries log.now.lines)
         (verdict_of plain.report) plain.weakest) }
+    ensures parts { IfOk result (λ plain. IfSome plain.log_parts
+        (AreLogParts (entries log.now.lines))) }
 {
     let certain_keys = SortedKeys::of(alloc, facts.certain.as_slice())?;
     let field = field_told(alloc, log, &facts, &certain_keys)?;
     let report = report_of_facts(alloc, facts, log)?;
-    let weakest = weakest_if_complete(alloc, &report.verdict(), log, log_parts)?;
+    let (weakest, log_parts) = weakest_if_complete(alloc, &report.verdict(), log, log_parts)?;
     Ok(PlainReading {
         report,
         field,
         certain_keys: Some(certain_keys),
         weakest,
+        log_parts,
     })
 }
 

@@ -8,4 +8,4 @@ returns-clause-weakest c =
     let es = entries c.args.log.lines in
     let keys = c.in_ok-keys.keys in
     let named : AreKeysOf keys (listed es) = keys_listed es keys _ _ c.in_ok-keys.ensures c.as_slice.ensures.value (rw c.lines.ensures.value at c.in_ok-listed.ensures.members) in
-    rw c.in_ok-part_margins.ensures at (c.in_ok-weakest.ensures (listed es) named)
+    c.in_ok-weakest.ensures.weakest (listed es) named

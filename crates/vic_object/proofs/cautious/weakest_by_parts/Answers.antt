@@ -1,15 +1,14 @@
-use Rattle.std.proofs.Common.{◌∙◌, ap}
+use Rattle.std.proofs.Common.{List, ℕ}
 use Rattle.std.proofs.lemmas.Result.{IfOk-weaker}
-use Rattle.vic_frame.specs.Uids.{has}
 use Rattle.vic_log.specs.Order.{entries, listed}
+use Rattle.vic_tree.specs.Keys.{AreKeysOf}
+use Rattle.vic_margin.proofs.Telling.{keys_listed}
 use Rattle.vic_margin.specs.Margins.{IsWeakest, IsWeakestBesides}
-use Rattle.vic_object.proofs.Measured.{weakest_same}
 use Rattle.vic_object.proofs.cautious.weakest_by_parts.Goals as goal
 
-pub returns : goal.returns
-returns c =
+pub returns-clause-weakest : goal.returns-clause-weakest
+returns-clause-weakest c =
     let es = entries c.args.log.now.lines in
-    let us = c.as_slice.result.now in
-    IfOk-weaker c.weakest_besides.result (IsWeakestBesides es us) (IsWeakest es) (λ w. weakest_same es us (listed es) w
-    (λ u. ap (λ us. has us u) c.as_slice.ensures.value ∙ c.in_ok-listed.ensures.members u ∙ ap (λ ls. has (listed (entries ls)) u) c.lines.ensures.value))
-    c.weakest_besides.ensures
+    let keys = c.in_ok-keys.keys in
+    let named : AreKeysOf keys (listed es) = keys_listed es keys _ _ c.in_ok-keys.ensures c.as_slice.ensures.value (rw c.lines.ensures.value at c.in_ok-listed.ensures.members) in
+    IfOk-weaker c.weakest_by_keys.result (λ r. (us : List ℕ) → AreKeysOf keys us → IsWeakestBesides es us r.0) (λ r. IsWeakest es r.0) (λ r h. h (listed es) named) c.weakest_by_keys.ensures.weakest

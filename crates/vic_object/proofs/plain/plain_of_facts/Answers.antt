@@ -16,4 +16,4 @@ returns-clause-certain_keys c = (
 )
 
 pub returns-clause-weakest : goal.returns-clause-weakest
-returns-clause-weakest c = subst (λ v. IsWeakestIfComplete (entries c.args.log.now.lines) v c.in_ok-weakest.weakest) c.verdict.ensures c.in_ok-weakest.ensures
+returns-clause-weakest c = subst (λ v. IsWeakestIfComplete (entries c.args.log.now.lines) v c.in_ok-weakest.weakest) c.verdict.ensures c.in_ok-weakest.ensures.weakest
