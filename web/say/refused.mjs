@@ -45,7 +45,7 @@ function advice(fault, ...parts) {
  */
 export function refused(told) {
   const { object: { line = 0, fault = "", ended, file }, faulty, counts } = told, isCut = line === counts.lines && line > 1 && !ended;
-  if (!counts.lines) return { headline: `The ${UNNAMED.test(file) ? "" : "file "}${printable(file)} is empty.`, shelf: SENTENCES.files.text.slice(2), causes: [] };
+  if (!counts.lines) return { headline: `The ${UNNAMED.test(file) ? "" : "file "}${printable(file)} is empty.`, shelf: SENTENCES.files.empty.slice(2), causes: [] };
   if (isForeign(told)) {
     const [, [, what, ...fix]] = foundIn(faulty);
     return { headline: SENTENCES.answers.foreign.replace("{}", () => what), shelf: [...fix, LOG_IS], causes: [] };

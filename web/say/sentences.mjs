@@ -74,7 +74,7 @@ export const SENTENCES = {
       "By itself it can't show whether a tag was missed: it says which tags were read, not what was asked."],
     "binary": ["[\u0000\uFFFD]", ": it isn't text in UTF-8", "If it is text, in UTF-16 for example, save it as ASCII or UTF-8."],
     "table": ["[,;\\t|]", "", "If it is a table of what should be here: name the column of tag numbers 'uid' in its first row, and open it with the logs."],
-    "empty": ["^$", ": its first line is empty", "Choose another file, or copy it again."],
+    "empty": ["^$", ": its first line is empty", "Choose another file, copy it again, or count again."],
     "text": ["", ", but another text: a log begins with 'vicinity-log'", "If the reader's software wrote it, counting again gives the same: ask whoever maintains the reader to have it write logs (docs/READERS.md of vicinity says how)."]
   },
   "failures": {
