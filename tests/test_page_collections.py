@@ -695,7 +695,7 @@ def test_a_log_joins_a_collection_or_replaces_that_of_its_place(page):
     assert page.texts(".note") == ["B.log was replaced by what you opened under the same name."]
     assert look(page) == "yes"
     page.press("#back")
-    page.until("h1", f"{empty[:-1]}; the log of B is older than one that was here.")
+    page.until("h1", empty.replace(";", "; the log of B is older than one that was here;"))
     assert page.run(FOCUS) == page.texts("h1")[0]
     page.press("#back")
     page.until("h1", "1 item not counted; no log of B.")
