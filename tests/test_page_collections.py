@@ -1323,6 +1323,13 @@ OLDER_THAN_GONE = {
         ({"books.csv": BOTH, "p.csv": b"place,log\nA,old.log\nB,r.log\n",
           "r.log": field(UID_B)}, 4),
         ({"old.log": field(UID_A)}, 0)),
+    "of a place that has another name now, and whose log's name others have": (
+        ({"books.csv": BOTH, "p.csv": b"place,log\nA,r1.log\nB,r2.log\n", "r1.log": field(),
+          "r2.log": field(UID_B)}, 3),
+        ({"books.csv": books((UID_A, ",Hall"), (UID_B, ",B"), (UID_C, ",C")),
+          "p.csv": b"place,log\nHall,old.log\nB,r1.log\nC,r2.log\n",
+          "r1.log": field(UID_B), "r2.log": field(UID_C)}, 4),
+        ({"old.log": field(UID_A)}, 0)),
     "a table of places, of which none is here": (
         (COMPLETE, 0), ({"places.csv": b"place,log\nA,A\nB,B\nC,C\n"}, 1), "Back")}
 NO_OLDER = {
@@ -1348,7 +1355,7 @@ def test_what_is_older_than_a_file_that_is_gone_is_asked_about(page, how):
             drop(page, step[0], {name: NOON + step[1] * HOUR for name in step[0]})
     (headline,) = page.texts("h1")
     assert (look(page) == "yes") == (how in NO_OLDER)
-    assert bool(re.match("All 2 expected items are in some log; but .* older than (one|those) "
+    assert bool(re.match(r"All \d expected items are in some log; but .* older than (one|those) "
                          "that w", headline)) == (how in OLDER_THAN_GONE)
 
 
@@ -2130,6 +2137,20 @@ def test_an_older_text_of_surveys_is_asked_about(page, program, surveys, tmp_pat
     assert look(page) == "yes"
     drop(page, {"s2.txt": other}, {"s2.txt": NOON - 2 * HOUR})
     assert page.texts("h1") == IS_OLDER
+
+
+def test_of_which_places_the_logs_in_a_text_of_surveys_were(page, surveys):
+    """Here others have their names, and that of A is older."""
+    drop(page, {"books.csv": BOTH, "n.surveys": b"".join(surveys)},
+         {"books.csv": NOON, "n.surveys": NOON})
+    until_green(page)
+    drop(page, {"books.csv": books((UID_A, ",A"), (UID_B, ",B"), (UID_C, ",C")),
+                "p.csv": b"place,log\nA,old.log\nB,A.log\nC,B.log\n", "A.log": field(UID_B),
+                "B.log": field(UID_C), "old.log": field(UID_A)},
+         {**{name: NOON + HOUR for name in ("books.csv", "p.csv", "A.log", "B.log")},
+          "old.log": NOON - HOUR})
+    assert page.texts("h1") == [
+        "All 3 expected items are in some log; but the log of A is older than one that was here."]
 
 
 def test_an_answer_is_about_a_text_of_surveys(page, program, surveys, tmp_path):

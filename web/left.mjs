@@ -13,7 +13,7 @@ export const UNFINISHED = /\.(crdownload|opdownload|download|part|partial|filepa
 /** How a log or surveys begin, in whatever coding; how surveys end that weren't cut off, and within how many bytes. */
 const MARK = /v\0?i\0?c\0?i\0?n\0?i\0?t\0?y\0?-/, END = /\nend \d+ \w{4}\r?\n$/, MOST_END = 40;
 /** By which keys what was here is compared; and as what each of it was judged last. */
-const KEYS = /** @type {WeakMap<Entry, string[]>} */ (new WeakMap()), JUDGED = /** @type {Map<number, import("./judge/objects.mjs").OneLog>} */ (new Map());
+const KEYS = /** @type {WeakMap<Entry, string[]>} */ (new WeakMap()), JUDGED = /** @type {Map<string, import("./judge/objects.mjs").OneLog>} */ (new Map());
 
 /** @param {Entry} entry */
 export const isATable = (entry) => kindOf(entry) === "table";
@@ -83,8 +83,8 @@ export function awayOf(seen, open) {
 export function putAges(object, { tables, logs }, away) {
   const byName = new Map(logs.flatMap((file) => namesIn(file, file.name).map((name) => [name, file])));
   const ofLogs = object.logs.flatMap((into) => {
-    const file = byName.get(into.name);
-    return file && JUDGED.set(file.id, Object.assign(into, { was: file.was })) ? { into, file, name: file.was ?? into.name } : [];
+    const file = byName.get(into.name), name = file?.was ?? into.name;
+    return file && JUDGED.set(`${file.id} ${name}`, Object.assign(into, { was: file.was })) ? { into, file, name } : [];
   });
   // that a place has no log is said of all logs
   put([...tables.map((file, at) => ({ into: object.files[at], file, name: file.name })), ...ofLogs], away.filter(({ id }) => !object.without_log.includes(JUDGED.get(id)?.place ?? "")));
@@ -109,8 +109,7 @@ function put(open, away) {
   const here = { open, byKey: grouped(open, ({ name, into }) => keyOf(name, into.name, into.place)), tables: open.filter(({ file }) => isATable(file)) };
   for (const { into, file: { changed } } of open) Object.assign(into, { changed, newer: undefined, than: undefined, beside: undefined });
   for (const gone of away) {
-    const { changed: newer = 0, name: than, id } = gone, older = open.filter(({ file }) => (file.changed ?? Infinity) < newer);
-    const beside = new Set(older.length ? besideOf(gone, older, here) : []);
+    const { changed: newer = 0, name: than, id } = gone, older = open.filter(({ file }) => (file.changed ?? Infinity) < newer), beside = new Set(older.length ? besideOf(gone, older, here) : []);
     for (const it of older) if (beside.has(it) && !isSame(it.file, gone)) Object.assign(it.into, { beside: (it.into.beside ?? 0) + id }, newer > (it.into.newer ?? -Infinity) && { newer, than });
   }
 }
@@ -127,8 +126,10 @@ function besideOf(gone, older, { open, tables, byKey }) {
   if (isATable(gone)) return [tables.filter(({ file }) => isPlaces(file) === isPlaces(gone)), older].find((list) => list.length) ?? [];
   // what couldn't be read may have been a table
   const mayBe = (/** @type {Opened} */ it) => !gone.text.length || !tables.includes(it), isHere = open.some(({ file }) => file.changed === gone.changed && isSame(file, gone));
-  const named = (/** @type {string} */ key) => (byKey.get(key) ?? []).filter(mayBe), names = namesIn(gone), { was, name: as, place = null } = JUDGED.get(gone.id) ?? {};
-  const ofPlace = names.length > 1 || place === null ? [] : open.filter(({ into }) => into.place === place), isApart = ofPlace.every(({ name }) => bareOf(name) !== bareOf(names[0]));
-  return [...isApart ? ofPlace : [], ...names.flatMap((name) =>
-    [named(keyOf(name, was && as, name)), named(bareOf(name)), named(uncopied(bareOf(name))), isHere ? [] : older.filter(mayBe)].find((list) => list.length) ?? [])];
+  return namesIn(gone).flatMap((name) => {
+    const { was, name: as, place = null } = JUDGED.get(`${gone.id} ${name}`) ?? {}, ofPlace = place === null ? [] : open.filter(({ into }) => into.place === place);
+    // where its place has no log, one of its name that is of a place is of another one, or was given anew
+    const isAnew = place !== null && !ofPlace.length, named = (/** @type {string} */ key) => (byKey.get(key) ?? []).filter((it) => mayBe(it) && !(isAnew && it.into.place));
+    return [...ofPlace.some((it) => bareOf(it.name) === bareOf(name)) ? [] : ofPlace, ...[keyOf(name, was && as, name), bareOf(name), uncopied(bareOf(name))].map(named).find(({ length }) => length) ?? (isHere ? [] : older.filter(mayBe))];
+  });
 }
