@@ -86,8 +86,7 @@ export function putAges(object, { tables, logs }, away) {
     const file = byName.get(into.name), name = file?.was ?? into.name;
     return file && JUDGED.set(`${file.id} ${name}`, Object.assign(into, { was: file.was })) ? { into, file, name } : [];
   });
-  // that a place has no log is said of all logs
-  put([...tables.map((file, at) => ({ into: object.files[at], file, name: file.name })), ...ofLogs], away.filter(({ id }) => !object.without_log.includes(JUDGED.get(id)?.place ?? "")));
+  put([...tables.map((file, at) => ({ into: object.files[at], file, name: file.name })), ...ofLogs], away, object.without_log);
 }
 
 /**
@@ -104,9 +103,10 @@ export function putAge(into, file, away, one = { into, file, name: file.was ?? f
  * Each file that isn't here any more is asked about beside open ones that are older.
  * @param {Opened[]} open
  * @param {Entry[]} away
+ * @param {string[]} [without] places that have no log, which is said of them
  */
-function put(open, away) {
-  const here = { open, byKey: grouped(open, ({ name, into }) => keyOf(name, into.name, into.place)), tables: open.filter(({ file }) => isATable(file)) };
+function put(open, away, without = []) {
+  const here = { open, without, byKey: grouped(open, ({ name, into }) => keyOf(name, into.name, into.place)), tables: open.filter(({ file }) => isATable(file)) };
   for (const { into, file: { changed } } of open) Object.assign(into, { changed, newer: undefined, than: undefined, beside: undefined });
   for (const gone of away) {
     const { changed: newer = 0, name: than, id } = gone, older = open.filter(({ file }) => (file.changed ?? Infinity) < newer), beside = new Set(older.length ? besideOf(gone, older, here) : []);
@@ -119,9 +119,9 @@ function put(open, away) {
  * of the place that it was of, if that has none of its name. What has no mark of a log, and no column of a catalogue, was one only by its name.
  * @param {Entry} gone
  * @param {Opened[]} older
- * @param {{open: Opened[], tables: Opened[], byKey: Map<string, Opened[]>}} here
+ * @param {{open: Opened[], without: string[], tables: Opened[], byKey: Map<string, Opened[]>}} here
  */
-function besideOf(gone, older, { open, tables, byKey }) {
+function besideOf(gone, older, { open, without, tables, byKey }) {
   if (strangeness(gone) && !MARK.test(startOf(gone))) return older.filter(({ name }) => rootOf(name) === rootOf(gone.name));
   if (isATable(gone)) return [tables.filter(({ file }) => isPlaces(file) === isPlaces(gone)), older].find((list) => list.length) ?? [];
   // what couldn't be read may have been a table
@@ -130,6 +130,6 @@ function besideOf(gone, older, { open, tables, byKey }) {
     const { was, name: as, place = null } = JUDGED.get(`${gone.id} ${name}`) ?? {}, ofPlace = place === null ? [] : open.filter(({ into }) => into.place === place);
     // where its place has no log, one of its name that is of a place is of another one, or was given anew
     const isAnew = place !== null && !ofPlace.length, named = (/** @type {string} */ key) => (byKey.get(key) ?? []).filter((it) => mayBe(it) && !(isAnew && it.into.place));
-    return [...ofPlace.some((it) => bareOf(it.name) === bareOf(name)) ? [] : ofPlace, ...[keyOf(name, was && as, name), bareOf(name), uncopied(bareOf(name))].map(named).find(({ length }) => length) ?? (isHere ? [] : older.filter(mayBe))];
+    return place !== null && without.includes(place) ? [] : [...ofPlace.some((it) => bareOf(it.name) === bareOf(name)) ? [] : ofPlace, ...[keyOf(name, was && as, name), bareOf(name), uncopied(bareOf(name))].map(named).find(({ length }) => length) ?? (isHere ? [] : older.filter(mayBe))];
   });
 }
