@@ -1371,9 +1371,12 @@ def test_logs_that_stay_are_asked_about_as_soon_as_a_newer_one_leaves(page):
     whole = field(UID_A, listed=[UID_A])
     drop(page, {"A (1).log": whole, "A.log": field(UID_A, listed=[UID_A, UID_B])},
          {"A (1).log": NOON + HOUR, "A.log": NOON + 3 * HOUR})
-    page.wait(lambda: page.texts("#logs .sign") == ["\u2713", "!"])
+    page.wait(lambda: page.texts("#logs .sign") == ["\u2713", "!"] and page.texts(".signed"))
     drop(page, {"A.log": whole}, {"A.log": NOON})
     page.wait(lambda: page.texts("#logs .sign") == ["i", "i"])
+    drop(page, {"B.log": whole, "C.log": whole})
+    page.wait(lambda: page.texts("#logs .sign") == ["i", "i", "\u2713", "\u2713"])
+    assert not page.texts(".signed")
 
 
 def test_a_place_is_called_by_its_name_whatever_signs_it_has(page):

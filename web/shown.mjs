@@ -108,7 +108,7 @@ export function overview(entries, current) {
   const sums = tolds.map(({ name, changed, told: { object: { answer, sha256 } } }) =>
     el("p", {}, `${printable(name)}: ${answer}${changed ? ` · of ${dated(changed)}` : ""} · SHA-256 `, el("code", {}, sha256)));
   const version = tolds.length ? `, by vicinity ${tolds[0].told.object.version}` : "", all = [words, ...entries.flatMap(({ said }) => said?.answered ?? [])];
-  const under = left ? [el("p", { class: "asked paper" }, `This is no result yet: ${count(left, "log is", "logs are")} still being judged.`)] : entries.some(({ said }) => !said || said.look === "broken" || said.look === "refused") ? [] : signed(all, `${count(many, "file")}${version}`);
+  const under = left ? [el("p", { class: "asked paper" }, `This is no result yet: ${count(left, "log is", "logs are")} still being judged.`)] : entries.some(({ said }) => !said || said.doubts.length || said.look === "broken" || said.look === "refused") ? [] : signed(all, `${count(many, "file")}${version}`);
   shown.replaceChildren(...tolds.length ? [takenForGranted(tolds.map(({ told }) => told))] : [], el("footer", { class: "record" }, ...sums, ...under));
   headed(words, !left);
 }
