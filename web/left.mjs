@@ -128,8 +128,8 @@ function besideOf(gone, older, { open, without, tables, byKey }) {
   const mayBe = (/** @type {Opened} */ it) => !gone.text.length || !tables.includes(it), isHere = open.some(({ file }) => file.changed === gone.changed && isSame(file, gone));
   return namesIn(gone).flatMap((name) => {
     const { was, name: as, place = null } = JUDGED.get(`${gone.id} ${name}`) ?? {}, ofPlace = place === null ? [] : open.filter(({ into }) => into.place === place);
-    // where its place has no log, one of its name that is of a place is of another one, or was given anew
-    const isAnew = place !== null && !ofPlace.length, named = (/** @type {string} */ key) => (byKey.get(key) ?? []).filter((it) => mayBe(it) && !(isAnew && it.into.place));
+    // where its place has no log, one of its name that is of a place by another's word is of another one, or was given anew
+    const isAnew = place !== null && !ofPlace.length, named = (/** @type {string} */ key) => (byKey.get(key) ?? []).filter((it) => mayBe(it) && !(isAnew && it.into.place && it.into.place !== bareOf(it.name)));
     return place !== null && without.includes(place) ? [] : [...ofPlace.some((it) => bareOf(it.name) === bareOf(name)) ? [] : ofPlace, ...[keyOf(name, was && as, name), bareOf(name), uncopied(bareOf(name))].map(named).find(({ length }) => length) ?? (isHere ? [] : older.filter(mayBe))];
   });
 }

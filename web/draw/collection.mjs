@@ -154,11 +154,11 @@ function drawnLog(told, names) {
  * What a log says. What is left to ask in its field stands where it is opened.
  * @param {OneLog} log
  */
-function saidOf({ field, certain = 0, open = [] }) {
+function saidOf({ field, certain = 0, open = [], deaf }) {
   const [kind, , , line] = field.split(" "), where = `line ${parseInt(line)}`;
   if (kind === KIND.IMPOSSIBLE) return `nothing is known of its field, since its log contradicts itself (${where})`;
   if (kind === KIND.REFUSED) return `this log can't be read (${where}), so nothing is known of its field: copy it again, or count again`;
-  return `${count(certain, "tag")}${open.length ? "; not finished" : ""}`;
+  return `${count(certain, "tag")}${open.length ? "; not finished" : deaf ? "; it isn't shown that the reader heard to the end" : ""}`;
 }
 
 /** @param {CollectionObject} object */
@@ -173,7 +173,7 @@ function recordOfAll(object) {
   const { counts, items, logs, files, version, answer, file, left = [] } = object, { isUnsettled, answered } = summaryOf(object);
   const states = Object.entries(counts).flatMap(([state, number]) => number ? `${number.toLocaleString("en")} ${state}` : []);
   const said = [count(items.length, "item"), ...states, count(logs.length, "log")].join("\u00A0· "), ifAll = isUnsettled ? ", if all logs count" : "";
-  const sums = files.map((it) => el("p", {}, `${printable(it.file)}${it.changed ? ` of ${dated(it.changed)}` : ""}${it.sha256 ? " · SHA-256 " : ""}`, el("code", {}, it.sha256)));
+  const sums = files.map((it) => el("p", {}, `${printable(it.file)}${it.changed && !object.example ? ` of ${dated(it.changed)}` : ""}${it.sha256 ? " · SHA-256 " : ""}`, el("code", {}, it.sha256)));
   return el("footer", { class: "record" }, el("p", {}, said, ifAll), el("p", {}, `vicinity ${version}${ifAll}: `, el("code", {}, printable(answer))), ...sums,
     ...isUnsettled || object.example ? [] : signed([sayAll(object).headline, ...left, ...answered], printable(file)));
 }

@@ -1,7 +1,7 @@
 /** What is folded is unfolded on paper, and where only text is kept; each sheet says when it was printed, those behind the first one of what. */
 
 /** How much of that stands on a sheet; how many rules the page's style has: the next one is that of the paper. */
-const MOST_TITLE = 110, SMALL = "font: 8pt system-ui, sans-serif;", STYLE = document.styleSheets[0]?.cssRules.length;
+const MOST_TITLE = 150, SMALL = "font: 8pt system-ui, sans-serif;", STYLE = document.styleSheets[0]?.cssRules.length;
 
 /**
  * Unfolds all, and draws what is drawn only then.

@@ -11,8 +11,8 @@ const COUNT = "Count again, in a new log. If that is refused too, send the log a
 const COPY = "The file may have been cut off, by a full disk or because it was copied while it was written: copy it again.";
 const NO_PART = "If it doesn't belong here, leave it out. A log begins with 'vicinity-log', and a catalogue has a column 'uid'.";
 const ONE_OF_EACH = "Open one catalogue (a table with a column uid), at most one table of places (with the columns place and log), and logs.";
-/** A cell with a UID, low byte first; files of which lines may stand in a table; and what has no name of a file. */
-const UNNAMED = /^(?:pasted text|standard input)$/, TURNED = /(?:^|[,;\t"])(?:[0-9A-F]{2}[ :.-]?){7}E0(?:$|[,;\t"])/i, IN_TABLES = ["surveys", "turned", "list", "binary", "table", "text"];
+/** A cell with a UID, low byte first, and a UID; files of which lines may stand in a table; and what has no name of a file. */
+const UNNAMED = /^(?:pasted text|standard input)$/, TURNED = /(?:^|[,;\t"])(?:[0-9A-F]{2}[ :.-]?){7}E0(?:$|[,;\t"])/i, A_TAG = /E0(?:[ :.-]?[0-9A-F]{2}){7}/i, IN_TABLES = ["surveys", "turned", "list", "binary", "table", "text"];
 /** How a text begins that somebody meant as a log, but for what an editor adds to it, or a coding makes of it. */
 const [BEGINS, LOG_IS] = SENTENCES.aLog, CODED = /[\0\uFEFF\uFFFD]/g, isOfALog = (/** @type {string} */ text) => new RegExp(BEGINS, "i").test(text.replace(CODED, ""));
 
@@ -89,7 +89,7 @@ function wrongTable(text, line, fault) {
   if (text.includes("\0") && !isOfALog(text) && foundIn(text.replace(CODED, ""))[0] !== "surveys") return advice("utf16", SENTENCES.tables);
   if (first) return { wrong: first[0], fix: first[1] };
   if (fault === "Utf8" && text.includes("\uFFFD")) return { wrong: "the line isn't UTF-8", fix: "Save the sheet as 'CSV UTF-8'." };
-  return advice(fault === "Uid" && TURNED.test(text) ? "turned" : fault, SENTENCES.tables);
+  return advice(fault === "Uid" && TURNED.test(text) ? "turned" : fault === "Columns" && A_TAG.test(text) ? "unnamed" : fault, SENTENCES.tables);
 }
 
 /**

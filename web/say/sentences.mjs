@@ -51,10 +51,10 @@ export const SENTENCES = {
     "SameName": ["another log has that name, or is of a place by the same name", "Rename one of the two logs, or leave out the older one."],
     "Survey": ["this isn't a survey as vicinity survey writes it: it was cut off or changed", "Make the survey again, or copy its file again."],
     "utf16": ["it seems to be UTF-16, but cut off, changed, or without its mark", "Copy the file again, or save the table as 'CSV UTF-8'."],
+    "unnamed": ["it is an item already: the names of the columns are missing", "Write a line with them above it, as uid,title,place. Overwrite nothing."],
     "turned": ["the bytes of the UID are in the opposite order, with E0 last", "Turn the bytes of each UID round, so that E0 comes first: A1000000000104E0 is E0040100000000A1."]
   },
-  "first": { "\u0000": ["it seems to be UTF-16", "Save it as ASCII or UTF-8."], "\uFEFF": ["it begins with a byte order mark", "Save it as UTF-8 without one."],
-    "\r": ["its lines end with CR alone", "Save it with LF, or CR LF, at the end of each line: editors call these Unix and Windows."] },
+  "first": { "\u0000": ["it seems to be UTF-16", "Save it as ASCII or UTF-8."], "\uFEFF": ["it begins with a byte order mark", "Save it as UTF-8 without one."], "\r": ["its lines end with CR alone", "Save it with LF, or CR LF, at the end of each line: editors call these Unix and Windows."] },
   "aLog": ["^(?:vicinity-(?!survey )|[TRHU] [0-9A-F]|[SCDNF]$|#)", "A log is text from the reader's software; its first line begins with 'vicinity-log'."],
   "files": {
     "surveys": ["^vicinity-survey ", ", but a text of surveys, which says what logs say of their fields", "Open it together with a catalogue (CSV)."],
@@ -73,13 +73,13 @@ export const SENTENCES = {
     "list": ["^\\W{0,3}(?:uid|(?:0x)?E0(?:[ :.-]?[0-9A-F]{2}){7})\\W{0,3}$", ", but a list of tag numbers", "If it is what should be here: write uid as its first line, and open it together with the logs.",
       "By itself it can't show whether a tag was missed: it says which tags were read, not what was asked."],
     "binary": ["[\u0000\uFFFD]", ": it isn't text in UTF-8", "If it is text, in UTF-16 for example, save it as ASCII or UTF-8."],
+    "read": ["^(?=.*\\d\\d:\\d\\d).*E0(?:[ :.-]?[0-9A-F]{2}){7}", ", but what a reader has read, times and tag numbers", "It doesn't say what was asked, so it can't show whether a tag was missed, and counting again gives the same: ask whoever maintains the reader to have it write logs (docs/READERS.md of vicinity says how)."],
     "table": ["[,;\\t|]", "", "If it is a table of what should be here: name the column of tag numbers 'uid' in its first row, and open it with the logs."],
     "empty": ["^$", ": its first line is empty", "Choose another file, copy it again, or count again."],
     "text": ["", ", but another text: a log begins with 'vicinity-log'", "If the reader's software wrote it, counting again gives the same: ask whoever maintains the reader to have it write logs (docs/READERS.md of vicinity says how)."]
   },
   "failures": {
-    "none": "this browser doesn't run what judges it", "memory": "there isn't enough memory for it: close other tabs and programs, and open it again",
-    "trap": "the page has failed while it judged this: open it anew, and if it happens again, send the file to whoever maintains vicinity"
+    "none": "this browser doesn't run what judges it", "memory": "there isn't enough memory for it: close other tabs and programs, and open it again", "trap": "the page has failed while it judged this: open it anew, and if it happens again, send the file to whoever maintains vicinity"
   },
   "requests": {
     "hidden": "To know whether a strong reply hid a weaker one, silence each tag that was heard, and ask all in one slot, until none answers:",
@@ -115,8 +115,7 @@ export const SENTENCES = {
     "ifHidden": "; others may be, if stronger replies hid them.", "othersAre": "others are too", "othersMayBe": "others may be too",
     "noneRead": "tags are here, but none was read", "noneProved": "no tag is proved to be here, but some may be", "absent": "{} didn't answer",
     "unlisted": ["{} tag here isn't listed", "{} tags here aren't listed"], "doubtful": ["{} isn't proved", "{} aren't proved"],
-    "silenced": ["{} tag may be here or not, since it was silenced before it was heard", "{} tags may be here or not, since they were silenced before they were heard"],
-    "silencedListed": ["{} listed tag isn't proved, since it was silenced before it was heard", "{} listed tags aren't proved, since they were silenced before they were heard"],
+    "silenced": ["{} tag may be here or not, since it was silenced before it was heard", "{} tags may be here or not, since they were silenced before they were heard"], "silencedListed": ["{} listed tag isn't proved, since it was silenced before it was heard", "{} listed tags aren't proved, since they were silenced before they were heard"],
     "asked": ["once or more", "{} times or more"], "noList": " The log has no list to compare with."
   }
 };

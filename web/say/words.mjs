@@ -3,8 +3,8 @@ import { hex, UID_BITS } from "../judge/frames.mjs";
 
 /** @typedef {import("../judge/frames.mjs").Mask} Mask */
 
-/** The bits that each UID has. */
-const E0 = 0xE0n << BigInt(UID_BITS);
+/** The bits that each UID has; and a name that is too long for a title. */
+const E0 = 0xE0n << BigInt(UID_BITS), LONG = /^(.{36}).{4,}$/su;
 
 /**
  * 1 tag, 2,000 tags.
@@ -91,7 +91,7 @@ export const printable = (text) => text.replace(/[\p{C}\u2028\u2029]/gu, (it) =>
  * @param {string} file
  * @param {string} headline
  */
-export const titled = (file, headline) => headline.startsWith(printable(file)) ? headline : `${printable(file)}: ${headline}`;
+export const titled = (file, headline) => headline.startsWith(printable(file)) ? headline : `${printable(file).replace(LONG, "$1…")}: ${headline}`;
 
 /**
  * line 4; lines 3, 6 and 8; 600 lines from 5 to 900.
