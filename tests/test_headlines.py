@@ -86,7 +86,7 @@ def test_no_headline_of_several_logs_says_more_than_their_objects(wasm_module, l
         why = each_says_too_much(said, [count for _, count in case])
         assert not why, f"{said['headline']!r}: {why}\n{[text.decode() for text, _ in case]}"
         complete = sum(it["kind"] == "complete" for it in said["objects"])
-        seen[f"{complete} complete", re.sub("^.*open", "", said["headline"])] += 1
+        seen[f"{complete} complete", re.sub("^.*show", "", said["headline"])] += 1
     # also some that are complete, and of which others may be there
     assert {("2 complete", ": 1 of 3."), ("1 complete", ": 0 of 2.")} <= seen.keys()
 

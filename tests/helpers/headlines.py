@@ -137,6 +137,7 @@ ALL_HERE = re.compile(rf"^All {NUMBER} (?:expected|tagged) items are (?:here|in 
                       r"|\bTogether the logs have the one expected item\.")
 
 
+IF_HEARD = " if the readers? of .+? heard to the end"
 DEAF = re.compile(r"no others?, if the readers? of (.+) heard to the end\.")
 WHERE = re.compile(rf"others may be in the fields? of (.+), {HIDDEN}")
 # Of one item a headline says which it is, of these, in so many cells and characters at most.
@@ -184,7 +185,7 @@ def collection_says_too_much(said):
     if is_all := ALL_HERE.search(headline):
         said_number = is_all[1] or is_all[2]
         number = number_in(said_number) if said_number else "one" in is_all[0]
-        if number != here or wanted.keys() - {"no tag"}:
+        if number != here or wanted.keys() - {"no tag", "unexpected", "returned"}:
             return is_all[0]
         if " item" in is_all[0] and ("tagged" in is_all[0]) != bool(counts["no tag"]):
             return "whether all items have tags"
@@ -200,13 +201,18 @@ def collection_says_too_much(said):
         return None if has_untagged == bool(counts["no tag"]) else "whether an item has no tag"
     told_of = dict.fromkeys(wanted, 0)
     for number, kind, which in re.findall(
-            rf"{NUMBER} (?:items? )?({'|'.join(KINDS)})((?: its shelf)? \()?", headline):
+            rf"{NUMBER} (?:items? )?({'|'.join(KINDS)})((?: its shelf|{IF_HEARD})? \()?",
+            headline):
         state = KINDS[kind]
         told_of[state] = told_of.get(state, 0) + number_in(number)
         if bool(which) != (number == "1" and kind.startswith(NAMED)):
             return f"{kind}: which"
         if which and not any(f"{kind}{which}{name})" in headline for name in named(told, state)):
             return f"{kind}: another one"
+    for names in re.findall(IF_HEARD.replace(".+?", "(.+?)"), headline.partition("no other")[0]):
+        if not {it for it in re.split(", | and ", names) if not MORE.fullmatch(it)} <= {
+                place_of(log) for log in logs if log["deaf"]}:
+            return "missing, if another reader heard"
     if told_of != wanted:
         return f"{told_of}, and not {wanted}"
     lacking = [words for words, is_so in (
