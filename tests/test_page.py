@@ -1008,7 +1008,7 @@ def test_a_name_written_from_right_to_left_does_not_move_a_number(page):
                  "\u05de\u05d3\u05e3 1.log": log_of("I1 RA QA I1 S")})
     page.until("h1", OF_A_DEAF.format("\u05de\u05d3\u05e3 1"))
     page.press("details:has(.logs) > summary")
-    assert page.texts(".logs summary") == ["\u05de\u05d3\u05e3 1: 1 tag"]
+    assert page.texts(".logs summary")[0].startswith("\u05de\u05d3\u05e3 1: 1 tag; it isn't shown")
     name, number = page.run("""
       const it = document.querySelector(".logs b"), range = document.createRange();
       range.setStart(it.nextSibling, 2);
@@ -1403,7 +1403,7 @@ def test_a_catalogue_is_pasted_beside_the_logs_that_are_here(page):
     page.drop_files({"one.log": log_of("I1 RA QA I1 S UA"), "two.log": log_of("I1 S")})
     page.until("#logs", "two.log")
     page.run(PASTES, [], "uid,title\nE0040100000000A1,Emma\nE0040100000000B2,Kim\n", "body")
-    page.until(".banner", "pasted text · 2 logs")
+    page.until(".banner", "pasted text of ")
     assert "Kim" in page.said()
 
 

@@ -777,8 +777,10 @@ def test_a_catalogue_is_not_replaced_without_a_word(page, how):
     page.until(".note", said)
     assert page.texts(".note") == [said]
     assert page.run(TOLD) == f"{said} {page.texts('h1')[0]}"
+    # what was missing isn't any more, which is said as long as it is so
     drop(page, {"B.log": field(UID_B)})
-    assert page.texts(".note") == ["B.log was replaced by what you opened under the same name."]
+    assert page.texts(".note") == ["B.log was replaced by what you opened under the same name.",
+                                   said]
 
 
 def test_a_table_of_places_is_not_replaced_without_a_word(page):
@@ -1206,12 +1208,14 @@ def test_an_older_catalogue_is_asked_about(page, tmp_path):
                     r"\d\d:\d6, which isn't here any more\.$", words)
     page.press(".doubts button")
     page.until(".banner.yes h1", "All 2 expected items are here, and no others.")
-    said = f"{words} It was answered here: 'The older one counts'."
-    assert page.texts(".note") == [said]
+    # and what was missing isn't in the next one
+    said = ["books.csv (3 items) was replaced by books.csv.",
+            f"{words} It was answered here: 'The older one counts'."]
+    assert page.texts(".note") == said
     made = saved(page, tmp_path / "saved")
     drop(page, {**COMPLETE, "south.csv": BOTH}, {"south.csv": NOON - 40 * DAY})
     page.open(made)
-    assert page.texts(".note") == [said] and look(page) == "yes"
+    assert page.texts(".note") == said and look(page) == "yes"
     assert "b.csv of 29 Oct 2026, " in page.run("return document.body.textContent")
 
 

@@ -160,7 +160,7 @@ function joined(here, tables, logs, note, first) {
     (replacing(replaced, logs) || (more.length ? `${namesOf(more)} joined the logs that were here.` : ""));
   const opened = [...logs, ...tables], isBack = (/** @type {Left} */ one) => opened.some((it) => it.name === one.name && (it.changed ?? 0) >= (one.changed ?? 0));
   return collected({ tables: [...here.tables.filter((table) => !gone.includes(table)), ...tables], logs: [...kept, ...logs], both: globalThis.crypto?.subtle ? here.both : [],
-    left: [...here.left.filter((it) => !isBack(it)), ...old && had ? [{ name: `${old.name}${had}`, how: `replaced by ${namesOf(tables.filter(isCatalogue))}` }] : []] }, said.trimEnd());
+    left: [...here.left.filter((it) => !isBack(it)), ...old && first?.collection?.counts.missing ? [{ name: `${old.name}${had}`, how: `replaced by ${namesOf(tables.filter(isCatalogue))}` }] : []] }, said.trimEnd());
 }
 
 /**
