@@ -7,7 +7,7 @@ from cases import TOP
 from vicinity import Fault
 from vicinity._sentences import SENTENCES, advice, numbered
 
-NOT_OF_TABLES = {"SameName", "Survey", "turned", "utf16"}
+NOT_OF_TABLES = {"SameName", "Survey", "turned", "unnamed", "utf16"}
 
 
 def faults_of_tables():
