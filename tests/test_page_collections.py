@@ -1334,6 +1334,12 @@ OLDER_THAN_GONE = {
           "p.csv": b"place,log\nHall,old.log\nB,r1.log\nC,r2.log\n",
           "r1.log": field(UID_B), "r2.log": field(UID_C)}, 4),
         ({"old.log": field(UID_A)}, 0)),
+    "of a place that has another name now, beside a newer one that it may be a copy of": (
+        ({"books.csv": BOTH, "p.csv": b"place,log\nA,B (1).log\nB,B.log\n",
+          "B (1).log": field(), **OLD_B}, 1),
+        ({"books.csv": books((UID_A, ",Hall"), (UID_B, ",B")), "B.log": field(UID_B, asks=2),
+          "p.csv": b"place,log\nHall,B (1).log\nB,B.log\n"}, 2),
+        ({"B (1).log": field(UID_A)}, 0)),
     "a table of places, of which none is here": (
         (COMPLETE, 0), ({"places.csv": b"place,log\nA,A\nB,B\nC,C\n"}, 1), "Back")}
 NO_OLDER = {
@@ -1361,6 +1367,24 @@ def test_what_is_older_than_a_file_that_is_gone_is_asked_about(page, how):
     assert (look(page) == "yes") == (how in NO_OLDER)
     assert bool(re.match(r"All \d expected items are in some log; but .* older than (one|those) "
                          "that w", headline)) == (how in OLDER_THAN_GONE)
+
+
+def test_of_a_place_that_has_no_log_now_a_newer_one_was_here(page):
+    """Though nothing isn't counted for that: of the name of another's, and of none that is here."""
+    asked = "in some log; no log of C; the log of A is older than one that was here."
+    both, old = books((UID_A, ",A"), (UID_B, ",A")), field(UID_A, UID_B)
+    table, other = b"place,log\nA,A.log\nC,C.log\n", b"place,log\nC,A.log\nA,C.log\n"
+    drop(page, {"books.csv": both, "p.csv": other, "A.log": field(UID_A)},
+         {"books.csv": NOON, "p.csv": NOON, "A.log": NOON + HOUR})
+    drop(page, {"p.csv": table, "A.log": old}, {"p.csv": NOON, "A.log": NOON})
+    page.until("h1", f"All 2 expected items are {asked}")
+    page.press("#close")
+    drop(page, {"books.csv": both, "p.csv": table, "A.log": old},
+         {name: NOON for name in ("books.csv", "p.csv", "A.log")})
+    page.until("h1", "All 2 expected items are here; no log of C.")
+    drop(page, {"C.log": field(UID_A)}, {"C.log": NOON + HOUR})
+    page.press("#back")
+    page.until("h1", f"All 2 expected items are {asked}")
 
 
 def test_what_is_opened_once_more_is_still_here(page):

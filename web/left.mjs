@@ -86,7 +86,7 @@ export function putAges(object, { tables, logs }, away) {
     const file = byName.get(into.name), name = file?.was ?? into.name;
     return file && JUDGED.set(`${file.id} ${name}`, Object.assign(into, { was: file.was })) ? { into, file, name } : [];
   });
-  put([...tables.map((file, at) => ({ into: object.files[at], file, name: file.name })), ...ofLogs], away, object.without_log);
+  put([...tables.map((file, at) => ({ into: object.files[at], file, name: file.name })), ...ofLogs], away, new Set(object.items.map(({ state, place }) => state === "not counted" ? place : null)));
 }
 
 /**
@@ -103,9 +103,9 @@ export function putAge(into, file, away, one = { into, file, name: file.was ?? f
  * Each file that isn't here any more is asked about beside open ones that are older.
  * @param {Opened[]} open
  * @param {Entry[]} away
- * @param {string[]} [without] places that have no log, which is said of them
+ * @param {Set<string | null>} [without] places that have no log, of which it is said that items aren't counted for that
  */
-function put(open, away, without = []) {
+function put(open, away, without = new Set()) {
   const here = { open, without, byKey: grouped(open, ({ name, into }) => keyOf(name, into.name, into.place)), tables: open.filter(({ file }) => isATable(file)) };
   for (const { into, file: { changed } } of open) Object.assign(into, { changed, newer: undefined, than: undefined, beside: undefined });
   for (const gone of away) {
@@ -119,7 +119,7 @@ function put(open, away, without = []) {
  * of the place that it was of, if that has none of its name. What has no mark of a log, and no column of a catalogue, was one only by its name.
  * @param {Entry} gone
  * @param {Opened[]} older
- * @param {{open: Opened[], without: string[], tables: Opened[], byKey: Map<string, Opened[]>}} here
+ * @param {{open: Opened[], without: Set<string | null>, tables: Opened[], byKey: Map<string, Opened[]>}} here
  */
 function besideOf(gone, older, { open, without, tables, byKey }) {
   if (strangeness(gone) && !MARK.test(startOf(gone))) return older.filter(({ name }) => rootOf(name) === rootOf(gone.name));
@@ -128,8 +128,9 @@ function besideOf(gone, older, { open, without, tables, byKey }) {
   const mayBe = (/** @type {Opened} */ it) => !gone.text.length || !tables.includes(it), isHere = open.some(({ file }) => file.changed === gone.changed && isSame(file, gone));
   return namesIn(gone).flatMap((name) => {
     const { was, name: as, place = null } = JUDGED.get(`${gone.id} ${name}`) ?? {}, ofPlace = place === null ? [] : open.filter(({ into }) => into.place === place);
-    // where its place has no log, one of its name that is of a place by another's word is of another one, or was given anew
-    const isAnew = place !== null && !ofPlace.length, named = (/** @type {string} */ key) => (byKey.get(key) ?? []).filter((it) => mayBe(it) && !(isAnew && it.into.place && it.into.place !== bareOf(it.name)));
-    return place !== null && without.includes(place) ? [] : [...ofPlace.some((it) => bareOf(it.name) === bareOf(name)) ? [] : ofPlace, ...[keyOf(name, was && as, name), bareOf(name), uncopied(bareOf(name))].map(named).find(({ length }) => length) ?? (isHere ? [] : older.filter(mayBe))];
+    const isSaid = place !== null && without.has(place), named = [keyOf(name, was && as, name), bareOf(name), uncopied(bareOf(name))].map((key) => (byKey.get(key) ?? []).filter(mayBe)).find(({ length }) => length);
+    // where its place has no log, and nothing says so, one of its name that is of a place by another's word is of another one, or was given anew
+    const isOne = named?.every((it) => place === null || isSaid || ofPlace.length || !it.into.place || it.into.place === bareOf(it.name));
+    return [...ofPlace.some((it) => bareOf(it.name) === bareOf(name)) ? [] : ofPlace, ...named && isOne ? named : isHere || isSaid ? [] : older.filter(mayBe)];
   });
 }
