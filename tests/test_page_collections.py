@@ -1311,6 +1311,9 @@ OLDER_THAN_GONE = {
     "of a reader that calls all its logs alike": (
         ({"books.csv": BOTH, "scan.log": field()}, 3), ({"scan.log": field(UID_B)}, 4),
         "Count it as B", (OLD_A, 0)),
+    "of its own name, that counts as another place's, which one of nearly that name doesn't": (
+        ({"books.csv": BOTH, "A.log": field(UID_A)}, 2), ({"A (1).log": field()}, 1),
+        "Only A.log", ({"A (1).log": field(UID_B)}, 0), "Count it as B"),
     "left out before another collection": (
         ({"north.csv": books((UID_C, ",N")), "N.log": field(UID_C), "A.log": field()}, 3),
         "Leave out A.log", (COMPLETE, 0)),

@@ -106,7 +106,7 @@ export function putAge(into, file, away, one = { into, file, name: file.was ?? f
  * @param {Set<string | null>} [without] places that have no log, of which it is said that items aren't counted for that
  */
 function put(open, away, without = new Set()) {
-  const here = { open, without, byKey: grouped(open, ({ name, into }) => keyOf(name, into.name, into.place)), tables: open.filter(({ file }) => isATable(file)) };
+  const here = { open, without, byName: grouped(open, ({ name }) => bareOf(name)), byKey: grouped(open, ({ name, into }) => keyOf(name, into.name, into.place)), tables: open.filter(({ file }) => isATable(file)) };
   for (const { into, file: { changed } } of open) Object.assign(into, { changed, newer: undefined, than: undefined, beside: undefined });
   for (const gone of away) {
     const { changed: newer = 0, name: than, id } = gone, older = open.filter(({ file }) => (file.changed ?? Infinity) < newer), beside = new Set(older.length ? besideOf(gone, older, here) : []);
@@ -119,18 +119,19 @@ function put(open, away, without = new Set()) {
  * of the place that it was of, if that has none of its name. What has no mark of a log, and no column of a catalogue, was one only by its name.
  * @param {Entry} gone
  * @param {Opened[]} older
- * @param {{open: Opened[], without: Set<string | null>, tables: Opened[], byKey: Map<string, Opened[]>}} here
+ * @param {{open: Opened[], without: Set<string | null>, tables: Opened[], byName: Map<string, Opened[]>, byKey: Map<string, Opened[]>}} here
  */
-function besideOf(gone, older, { open, without, tables, byKey }) {
+function besideOf(gone, older, { open, without, tables, byName, byKey }) {
   if (strangeness(gone) && !MARK.test(startOf(gone))) return older.filter(({ name }) => rootOf(name) === rootOf(gone.name));
   if (isATable(gone)) return [tables.filter(({ file }) => isPlaces(file) === isPlaces(gone)), older].find((list) => list.length) ?? [];
   // what couldn't be read may have been a table
   const mayBe = (/** @type {Opened} */ it) => !gone.text.length || !tables.includes(it), isHere = open.some(({ file }) => file.changed === gone.changed && isSame(file, gone));
   return namesIn(gone).flatMap((name) => {
-    const { was, name: as, place = null } = JUDGED.get(`${gone.id} ${name}`) ?? {}, ofPlace = place === null ? [] : open.filter(({ into }) => into.place === place);
-    const isSaid = place !== null && without.has(place), named = [keyOf(name, was && as, name), bareOf(name), uncopied(bareOf(name))].map((key) => (byKey.get(key) ?? []).filter(mayBe)).find(({ length }) => length);
+    const { name: as = name, place = null } = JUDGED.get(`${gone.id} ${name}`) ?? {}, ofPlace = place === null ? [] : open.filter(({ into }) => into.place === place);
+    const isSaid = place !== null && without.has(place), named = [keyOf(name, as, name), bareOf(name), uncopied(bareOf(name))].map((key) => (byKey.get(key) ?? []).filter(mayBe)).find(({ length }) => length);
     // where its place has no log, and nothing says so, one of its name that is of a place by another's word is of another one, or was given anew
     const isOne = named?.every((it) => place === null || isSaid || ofPlace.length || !it.into.place || it.into.place === bareOf(it.name));
-    return [...ofPlace.some((it) => bareOf(it.name) === bareOf(name)) ? [] : ofPlace, ...named && isOne ? named : isHere || isSaid ? [] : older.filter(mayBe)];
+    // one of its own name is, too, that counts as something else now
+    return [...as === name ? (byName.get(bareOf(name)) ?? []).filter(mayBe) : [], ...ofPlace.some((it) => bareOf(it.name) === bareOf(name)) ? [] : ofPlace, ...named && isOne ? named : isHere || isSaid ? [] : older.filter(mayBe)];
   });
 }
