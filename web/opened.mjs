@@ -45,7 +45,7 @@ const isLacking = ({ error, text }) => error && (error !== STOPPED || !text.leng
  * @returns {Promise<Entry>}
  */
 export async function read(file, signal, made) {
-  const entry = { id: Math.random(), name: file.name.replace(CONTROL, "?"), text: new Uint8Array(), changed: file.lastModified, made };
+  const entry = { id: Math.random(), name: file.name.replace(CONTROL, "?"), text: new Uint8Array(), changed: made === EXAMPLE ? undefined : file.lastModified, made };
   if (UNFINISHED.test(entry.name)) return { ...entry, error: NOT_WHOLE };
   if (file.size > MOST_BYTES) return { ...entry, error: TOO_LARGE };
   try {

@@ -59,7 +59,7 @@ export function collectionView(object, opener = () => null, canLeave = () => fal
   const maybe = new Set(lost.maybe), steps = [...byEye, ...object.wanted ? [ASK_MORE] : oneMore].map((it) => el("li", {}, it));
   const first = places.length ? ` that was counted. First count ${firstOf(places.map(printable))}: they may be there` : "";
   const look = (counts.missing ? `Missing items ${logs.length > 1 || first ? `answered on no shelf${first}` : "didn't answer"}. ${LOOK_FOR}` : "") + (counts.unexpected ? NOT_EXPECTED : "") + (counts.returned ? IS_BACK : "");
-  const drawn = logsOf.bind(null, object, opener), dates = object.example ? ["", ""] : [object.files.filter((it) => it.file === object.file), logs].map((it) => spanOf(it));
+  const drawn = logsOf.bind(null, object, opener), dates = [object.files.filter((it) => it.file === object.file), logs].map((it) => spanOf(it));
   return [...above, banner(said, `${file}${dates[0]} · ${count(logs.length, "log")}${dates[1]}`), ...asked,
     ...(isComplete || object.wanted) && !doubts.length ? [el("h2", {}, "At the shelves"), el("ul", { class: "steps" }, steps)] : [],
     ...isKnown ? conditions : [], ...drawn("Count again", again + (isBroken ? AGAIN_BROKEN : ""), open, true),
@@ -173,7 +173,7 @@ function recordOfAll(object) {
   const { counts, items, logs, files, version, answer, file, left = [] } = object, { isUnsettled, answered } = summaryOf(object);
   const states = Object.entries(counts).flatMap(([state, number]) => number ? `${number.toLocaleString("en")} ${state}` : []);
   const said = [count(items.length, "item"), ...states, count(logs.length, "log")].join("\u00A0· "), ifAll = isUnsettled ? ", if all logs count" : "";
-  const sums = files.map((it) => el("p", {}, `${printable(it.file)}${it.changed && !object.example ? ` of ${dated(it.changed)}` : ""}${it.sha256 ? " · SHA-256 " : ""}`, el("code", {}, it.sha256)));
+  const sums = files.map((it) => el("p", {}, `${printable(it.file)}${it.changed ? ` of ${dated(it.changed)}` : ""}${it.sha256 ? " · SHA-256 " : ""}`, el("code", {}, it.sha256)));
   return el("footer", { class: "record" }, el("p", {}, said, ifAll), el("p", {}, `vicinity ${version}${ifAll}: `, el("code", {}, printable(answer))), ...sums,
     ...isUnsettled || object.example ? [] : signed([sayAll(object).headline, ...left, ...answered], printable(file)));
 }
