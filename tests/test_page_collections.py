@@ -1316,6 +1316,9 @@ OLDER_THAN_GONE = {
     "of its own name, that counts as another place's, which one of nearly that name doesn't": (
         ({"books.csv": BOTH, "A.log": field(UID_A)}, 2), ({"A (1).log": field()}, 1),
         "Only A.log", ({"A (1).log": field(UID_B)}, 0), "Count it as B"),
+    "the only file, by its button": (
+        ({"list.csv": b"uid,place\nE0040100000000A1,A\nno UID,B\n"}, 3), "Leave out list.csv",
+        (COMPLETE, 0)),
     "left out before another collection": (
         ({"north.csv": books((UID_C, ",N")), "N.log": field(UID_C), "A.log": field()}, 3),
         "Leave out A.log", (COMPLETE, 0)),
@@ -2216,6 +2219,39 @@ def test_what_is_no_log_stays_until_it_is_left_out(page):
     page.press("#told button", page.texts("#told button").index("Leave out C.log"))
     until_green(page)
     assert page.texts(".note") == ["C.log was left out."]
+
+
+def test_what_can_not_be_read_can_be_left_out(page):
+    """Whatever its name: the whole file may have another one."""
+    part = "Unconfirmed 1234.crdownload"
+    drop(page, {**COMPLETE, part: b"uid"}, {name: NOON for name in (*COMPLETE, part)})
+    assert look(page) == "refused"
+    pressed(page, f"Leave out {part}")
+    until_green(page)
+    assert f"{part} was left out." in page.texts(".note")
+
+
+def test_a_log_in_a_text_of_surveys_counts_as_no_other(page, surveys):
+    """Though it may have been interchanged with one that has a file of its own."""
+    drop(page, {"books.csv": books((UID_B, ",A"), (UID_A, ",B")), "A.log": field(UID_A),
+                "n.surveys": surveys[1]})
+    assert "Were the two interchanged?" in page.texts(".doubts")[0]
+    assert not [it for it in page.texts(".doubts button") if it.startswith("Count each")]
+
+
+@pytest.mark.parametrize("files", [
+    {}, {"A.log": log_of("I1 RA I1 RB")},
+    {"A.log": field(UID_A, listed=[UID_A]), "B.log": log_of("I1 RA I1 RB")}])
+def test_nothing_is_signed_that_is_no_result(page, files):
+    """The example, a count that can't be used, and a list of logs that has one."""
+    if files:
+        drop(page, files)
+    else:
+        page.press("#example")
+        page.until("h1", "1 item missing")
+    page.media("print")
+    page.run(PRINTS)
+    assert "Counted on" not in page.said()
 
 
 def test_beside_what_can_not_be_read_there_is_no_answer(page):
