@@ -1058,7 +1058,9 @@ def test_no_answer_stands_beside_another_log_of_the_same_name(page):
     page.run("""
       const post = Worker.prototype.postMessage;
       let posted = 0;
-      Worker.prototype.postMessage = function (it) { if (!posted++) post.call(this, it); };
+      Worker.prototype.postMessage = function (it) {
+        if (it.index || !posted++) post.call(this, it);
+      };
     """)
     page.run(DROP, [["log", log_of(names).decode()] for names in ("I1 RA QA I1 S UA", "I1 S UA")])
     page.until("#logs", "The one listed tag is here")

@@ -1,5 +1,6 @@
 /** Judging, in a worker that can be stopped. */
 import { sumOf } from "./judge/files.mjs";
+import { indexed } from "./judge/log.mjs";
 import { SENTENCES } from "./say/sentences.mjs";
 
 /** @typedef {import("./judge/told.mjs").Told} Told */
@@ -43,16 +44,17 @@ export class Work {
   get isBusy() { return this.#waiting.size > 0; }
 
   /**
-   * A text is copied here, and handed over; and its sum is worked out here, while the worker has enough to do.
+   * A text is copied here, and handed over; while the worker has enough to do, its sum is worked out here, and if it is the only one, its index.
    * @param {{text?: Uint8Array, [member: string]: unknown}} what
    * @returns {Promise<Done>}
    */
   async ask(what) {
-    const id = ++this.#requested, asked = new Promise((answer) => { this.#waiting.set(id, answer); });
+    const id = ++this.#requested, isIndexed = !this.isBusy && what.text !== undefined, asked = new Promise((answer) => { this.#waiting.set(id, answer); });
     if (!this.#worker) this.#begin();
     try {
-      const text = what.text?.slice();
-      /** @type {Worker} */ (this.#worker).postMessage({ id, ...what, text }, text ? [text.buffer] : []);
+      const text = what.text?.slice(), worker = /** @type {Worker} */ (this.#worker);
+      worker.postMessage({ id, ...what, text, isIndexed }, text ? [text.buffer] : []);
+      if (isIndexed && what.text) worker.postMessage({ id, index: indexed(what.text, false) });
     } catch { this.stop(SENTENCES.failures.none); }
     const sum = what.text ? await sumOf(what.text).catch(() => "") : "", done = await asked;
     this.#waiting.delete(id);

@@ -12,6 +12,8 @@ let module;
 /** @type {Promise<Library | null>} */
 let loading;
 let isAsked = false;
+/** @type {((index: import("./judge/log.mjs").Index) => void) | undefined} */
+let take;
 
 /** How often a log is judged before anything is asked, and how often it has the rounds of a small one: a browser compiles well only what ran long. */
 const WARMING = 20, FIELDS = 400;
@@ -42,7 +44,10 @@ async function warm(sample) {
   for (let left = WARMING; library && left && !isAsked; left--) tell(await judge(library, long, ""), long);
 }
 
-onmessage = async ({ data: { id, text, name, isKept, changed, files, ...data } }) => {
+onmessage = async ({ data: { id, text, name, isKept, changed, files, isIndexed, index, ...data } }) => {
+  if (index) return take?.(index);
+  // it comes while the text is judged
+  const made = isIndexed ? new Promise((done) => { take = done; }) : undefined;
   try {
     if (data.module) {
       module = data.module;
@@ -52,7 +57,7 @@ onmessage = async ({ data: { id, text, name, isKept, changed, files, ...data } }
     isAsked = true;
     const library = await loading;
     if (!library) return postMessage({ id, error: SENTENCES.failures.none });
-    if (text) postMessage({ id, told: tell({ ...await judge(library, text, name, isKept, ""), changed }, text) });
+    if (text) postMessage({ id, told: tell({ ...await judge(library, text, name, isKept, ""), changed }, text, await made) });
     if (files) postMessage({ id, collection: await judgeAll(library, files) });
   } catch (error) {
     postMessage({ id, ...why(error, files) });

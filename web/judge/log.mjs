@@ -13,8 +13,7 @@ export const LF = 10, CR = 13;
 /** @param {string} letter */
 const codeOf = (letter) => letter.charCodeAt(0), ASKING = codeOf("T"), CYCLED = codeOf("F");
 /** What a slot held, by the letter with which its line begins. */
-const LETTERS = /** @type {[string, Reading][]} */ ([["S", "silent"], ["R", "heard"], ["H", "captured"], ["C", "collision"],
-  ["D", "garbled"], ["N", "unknown"]]);
+const LETTERS = /** @type {[string, Reading][]} */ ([["S", "silent"], ["R", "heard"], ["H", "captured"], ["C", "collision"], ["D", "garbled"], ["N", "unknown"]]);
 const READINGS = Array.from({ length: 256 }, (_, code) => LETTERS.find(([letter]) => codeOf(letter) === code)?.[1]);
 /** How many characters a line has at least, by its letter, if the log isn't refused: a request, a reply, a UID. */
 const SURE = Uint8Array.from(READINGS, (_, code) => ({ T: 12, R: 26, H: 26, U: 18 })[String.fromCharCode(code)] ?? 0);
@@ -26,45 +25,51 @@ const FRAME_AT = 2, OF_ONE_SLOT = [0, codeOf("2")], SILENCING = [3, codeOf("2")]
  *  a text is refused. */
 const MOST_LINES = 1_000_000, LONGEST = 4096, LINES = new TextDecoder("utf-8", { ignoreBOM: true });
 
+/** @typedef {{starts: Uint32Array, rows: Uint32Array, counts: Record<"lines" | "rounds" | "quiets" | "cycles" | "slots" | "heard" | "alone" | "listed", number>}} Index
+ *   where each line begins, and where one behind the last would; the lines that begin a row; and how many there are of which */
+
+/**
+ * Where the lines of a text are, and what they are.
+ * @param {Uint8Array} text
+ * @param {boolean} isRefused
+ * @returns {Index}
+ */
+export function indexed(text, isRefused) {
+  const { length } = text, starts = new Uint32Array(Math.min(length, MOST_LINES) + 2), seen = new Uint32Array(256);
+  let last = 0;
+  for (let at = 0; at < length && last < MOST_LINES; at++) if (text[at] === LF) {
+    starts[++last] = at + 1;
+    if (!isRefused) at += SURE[text[at + 1]] ?? 0;
+  }
+  if (starts[last] !== length) starts[++last] = length + 1;
+  const rows = new Uint32Array(last);
+  let number = 0, quiets = 0;
+  for (let line = 2; line <= last; line++) {
+    const start = starts[line - 1], code = text[start];
+    seen[code]++;
+    if (code === ASKING && text[start + FRAME_AT + SILENCING[0]] === SILENCING[1]) quiets++;
+    if (code === ASKING || code === CYCLED) rows[number++] = line;
+  }
+  const alone = seen[codeOf("R")], cycles = seen[CYCLED];
+  return { starts: starts.subarray(0, last + 1), rows: rows.subarray(0, number), counts: { lines: last, rounds: number - cycles - quiets, quiets, cycles, alone,
+    heard: alone + seen[codeOf("H")], slots: LETTERS.reduce((sum, [letter]) => sum + seen[codeOf(letter)], 0), listed: seen[codeOf("U")] } };
+}
+
 /** The lines of a text, by their numbers from 1, and where its rows are. */
 export class Log {
-  /** Where each line begins; and where one behind the last would. @type {Uint32Array} */
   #starts;
-  /** The lines that begin a row. @type {Uint32Array} */
   #rows;
-  counts = { lines: 0, rounds: 0, quiets: 0, cycles: 0, slots: 0, heard: 0, alone: 0, listed: 0 };
 
   /**
    * @param {Uint8Array} text
    * @param {boolean} [isRefused]
+   * @param {Index} [index]
    */
-  constructor(text, isRefused = false) {
+  constructor(text, isRefused = false, index = indexed(text, isRefused)) {
     this.text = text;
-    const { length } = text, starts = new Uint32Array(Math.min(length, MOST_LINES) + 2);
-    let last = 0;
-    for (let at = 0; at < length && last < MOST_LINES; at++) if (text[at] === LF) {
-      starts[++last] = at + 1;
-      if (!isRefused) at += SURE[text[at + 1]] ?? 0;
-    }
-    if (starts[last] !== length) starts[++last] = length + 1;
-    this.#starts = starts.subarray(0, last + 1);
-    this.#rows = this.#count();
-  }
-
-  /** The lines that begin a row; the other lines are counted. */
-  #count() {
-    const rows = new Uint32Array(this.lineCount), seen = new Uint32Array(256), counts = this.counts;
-    let number = 0;
-    for (let line = 2; line <= this.lineCount; line++) {
-      const code = this.#code(line);
-      seen[code]++;
-      if (code === ASKING && this.#silences(line)) counts.quiets++;
-      if (code === ASKING || code === CYCLED) rows[number++] = line;
-    }
-    const alone = seen[codeOf("R")], cycles = seen[CYCLED];
-    Object.assign(counts, { lines: this.lineCount, rounds: number - cycles - counts.quiets, cycles, alone, heard: alone + seen[codeOf("H")],
-      slots: LETTERS.reduce((sum, [letter]) => sum + seen[codeOf(letter)], 0), listed: seen[codeOf("U")] });
-    return rows.subarray(0, number);
+    this.counts = index.counts;
+    this.#starts = index.starts;
+    this.#rows = index.rows;
   }
 
   /**

@@ -57,10 +57,11 @@ const MOST_NAMED = 24;
 /**
  * @param {LogObject} object
  * @param {Uint8Array} text
+ * @param {import("./log.mjs").Index} [index] unless it is refused
  * @returns {Told}
  */
-export function tell(object, text = new TextEncoder().encode(object.text)) {
-  const isRefused = object.kind === KIND.REFUSED, log = new Log(text, isRefused), { line = 0 } = object;
+export function tell(object, text = new TextEncoder().encode(object.text), index) {
+  const isRefused = object.kind === KIND.REFUSED, log = new Log(text, isRefused, isRefused ? undefined : index), { line = 0 } = object;
   log.counts.lines = object.lines;
   /** @type {Told} */
   const told = { object, faulty: isRefused && line <= log.lineCount ? log.line(line) : "", cycles: log.version > 1, conflict: null,
