@@ -641,7 +641,7 @@ def test_a_log_is_judged_by_itself_when_it_is_opened(page):
       const post = Worker.prototype.postMessage;
       window.asked = [];
       Worker.prototype.postMessage = function (it) {
-        window.asked.push(it.name ?? "");
+        if (!it.index) window.asked.push(it.name ?? "");
         post.call(this, it);
       };
     """)
@@ -779,10 +779,11 @@ def test_a_catalogue_is_not_replaced_without_a_word(page, how):
     page.until(".note", said)
     assert page.texts(".note") == [said]
     assert page.run(TOLD) == f"{said} {page.texts('h1')[0]}"
-    # what was missing isn't any more, which is said as long as it is so
+    assert "; 1 item that was missing has no row any more: Walden (B);" in page.texts("h1")[0]
+    # what was missing isn't any more
     drop(page, {"B.log": field(UID_B)})
-    assert page.texts(".note") == ["B.log was replaced by what you opened under the same name.",
-                                   said]
+    assert page.texts("h1") == ["The one expected item is here; 1 item not in the catalogue; "
+                                "B.log is of no place."]
 
 
 def test_a_table_of_places_is_not_replaced_without_a_word(page):
@@ -1037,7 +1038,7 @@ def test_an_older_file_that_replaces_a_newer_one_is_not_green(page, tmp_path):
     drop(page, {**COMPLETE, "B.log": field()}, {name: NOON for name in COMPLETE})
     page.until("h1", "1 item may be missing")
     drop(page, {"B.log": field(UID_B)}, {"B.log": NOON - HOUR})
-    assert page.texts(".note") == ["B.log was replaced by an older file of the same name."]
+    assert page.texts(".note") == ["B.log was replaced by what you opened under the same name."]
     assert page.texts("h1") == ["All 2 expected items are in some log; but the log of B is older "
                                 "than one that was here."]
     assert look(page) == "read" and not page.texts(".light.yes")
@@ -1210,15 +1211,44 @@ def test_an_older_catalogue_is_asked_about(page, tmp_path):
                     r"\d\d:\d6, which isn't here any more\.$", words)
     page.press(".doubts button")
     page.until(".banner.yes h1", "All 2 expected items are here, and no others.")
-    # and what was missing isn't in the next one
-    said = ["books.csv (3 items) was replaced by books.csv.",
-            f"{words} It was answered here: 'The older one counts'."]
+    said = [f"{words} It was answered here: 'The older one counts'."]
     assert page.texts(".note") == said
     made = saved(page, tmp_path / "saved")
     drop(page, {**COMPLETE, "south.csv": BOTH}, {"south.csv": NOON - 40 * DAY})
     page.open(made)
     assert page.texts(".note") == said and look(page) == "yes"
     assert "b.csv of 29 Oct 2026, " in page.run("return document.body.textContent")
+
+
+# How a catalogue goes, or what it had; and whether it is asked about its row.
+ROWLESS = {"newer": ({"books.csv": BOTH}, True), "of another name": ({"week 2.csv": BOTH}, True),
+           "with the row": ({"week 2.csv": books((UID_C, ",A"), (UID_B, ",B"), (UID_A, ",A"))},
+                            False)}
+
+
+@pytest.mark.parametrize("how", ROWLESS)
+def test_what_was_missing_is_not_complete_without_its_row(page, how, tmp_path):
+    """Nobody takes a missing item off the list by what is green then, whatever is opened later."""
+    files, is_asked = ROWLESS[how]
+    drop(page, {**COMPLETE, "books.csv": books(*[(uid, ",A" if uid != UID_B else ",B")
+                                                 for uid in ALL])},
+         {name: NOON for name in COMPLETE})
+    page.until("h1", "1 item missing (Kim, of A)")
+    drop(page, files, {name: NOON + HOUR for name in files})
+    drop(page, {"B.log": field(UID_B, asks=2)}, {"B.log": NOON + HOUR})
+    assert page.texts("h1") == [
+        "All 2 expected items are here, and no others. But 1 item that was missing has no row any "
+        "more: Kim (A)." if is_asked else "1 item missing (Kim, of A)."]
+    if not is_asked:
+        return
+    words = ("Missing with the catalogue that was here before, and without a row in this one: "
+             "Kim (A).")
+    assert look(page) == "read" and page.texts(".doubts b")[0] == words
+    pressed(page, "It isn't expected any more")
+    until_green(page)
+    page.open(saved(page, tmp_path / "saved"))
+    assert page.texts(".note") == [
+        f"{words} It was answered here: 'It isn't expected any more'."]
 
 
 def test_another_collection_that_is_older_is_asked_about(page):
@@ -1481,6 +1511,9 @@ def test_a_date_behind_a_dot_may_be_an_ending(page, is_at_once):
         "but the log of A is older than one that was here.")
     drop(page, {**logs, "A.20261130": field(UID_B), "books.csv": books(
         (UID_A, ",A.20261129"), (UID_B, ",A.20261130"))}, dates)
+    if not is_at_once:
+        # it was judged, as the log of another place
+        pressed(page, "The older one counts")
     until_green(page)
 
 
@@ -1542,9 +1575,9 @@ def test_a_later_count_by_the_name_of_a_copy_is_not_forgotten(page):
     drop(page, COMPLETE, {name: NOON for name in COMPLETE})
     drop(page, {"A (1).log": field()}, {"A (1).log": NOON + HOUR})
     drop(page, COMPLETE, {name: NOON for name in COMPLETE})
-    assert page.texts("h1") == ["All 2 expected items are in some log; but the log of A is older "
-                                "than one that was here."]
-    assert "is older than A (1).log of 18 Nov 2026, " in page.texts(".doubts b")[0]
+    assert page.texts("h1") == ["All 2 expected items are in some log; but the logs of A and B are "
+                                "older than those that were here."]
+    assert re.search(r"A.log is of 18 Nov .*, A \(1\).log was of 18 Nov ", page.texts(".doubts b")[0])
 
 
 def test_a_number_behind_a_dot_is_no_ending(page):

@@ -1,7 +1,7 @@
 /** What is opened: files as logs, each with its text, or together a collection, which has none of its own. */
 import { isPlaces, isStrange, surveyedIn } from "./judge/files.mjs";
 import { grouped } from "./judge/groups.mjs";
-import { bareOf, isATable, isCatalogue, NO_LOG, putAge, putAges, strangeness, UNFINISHED } from "./left.mjs";
+import { bareOf, isATable, isCatalogue, isNeither, NO_LOG, putAge, putAges, strangeness, UNFINISHED } from "./left.mjs";
 import { firstOf, MOST_LISTED } from "./say/shelves.mjs";
 import { count, listing, printable } from "./say/words.mjs";
 import { STOPPED } from "./work.mjs";
@@ -97,7 +97,7 @@ export function gathered(taken, all) {
   const isClosed = first && !isJoining && (earlier || !isLoose), closed = { name: `What was here (${what})`, how: "closed" };
   const over = isClosed ? earlier ? [] : [closed] : past, note = isClosed ? `${wasEach([closed])[0]} ` : "";
   if (isLoose) {
-    const gone = isClosed ? [] : sameAs(entries, logs), words = note || replacing(gone, logs);
+    const gone = isClosed ? [] : sameAs(entries, logs), words = note || replacing(gone);
     return [...isClosed ? [] : entries.filter((it) => !gone.includes(it)), ...logs.map((log) => ({ ...log, note: words.trimEnd() }))].map((it) => ({ ...it, left: over }));
   }
   const others = isJoining && !earlier ? entries : [], [unnamed, strange] = [others.filter(({ made }) => made), others.filter(isStrange)];
@@ -130,13 +130,9 @@ const wasEach = (left) => [...grouped(left, ({ how }) => how)].map(([how, its]) 
 /**
  * What became of logs that others replace.
  * @param {Entry[]} gone
- * @param {Entry[]} logs
  */
-function replacing(gone, logs) {
-  const [by] = sameAs(logs, gone), isOlder = gone.length === 1 && (by?.changed ?? Infinity) < (gone[0].changed ?? 0);
-  const called = gone.map(({ name, was = name }) => ({ name: was === name ? name : `${was}, counted as ${name},` }));
-  return was(called, `replaced by ${isOlder ? "an older file of" : "what you opened under"} the same name`);
-}
+const replacing = (gone) => was(gone.map(({ name, was = name }) => ({ name: was === name ? name : `${was}, counted as ${name},` })),
+  "replaced by what you opened under the same name");
 
 /**
  * A collection with more files, of which each takes the place of one of its kind, or of its name; and what became of these. Where each
@@ -157,10 +153,10 @@ function joined(here, tables, logs, note, first) {
   const had = first?.collection ? ` (${count(first.collection.items.length, "item")})` : "";
   const said = (old ? `${namesOf([old])}${had} was replaced by ${namesOf(tables.filter(isCatalogue))}. ` : "") +
     was(gone.filter(isPlaces), `replaced by ${namesOf(tables.filter(isPlaces))}`) + (note.trim() && `${note.trim()} `) +
-    (replacing(replaced, logs) || (more.length ? `${namesOf(more)} joined the logs that were here.` : ""));
+    (replacing(replaced) || (more.length ? `${namesOf(more)} joined the logs that were here.` : ""));
   const opened = [...logs, ...tables], isBack = (/** @type {Left} */ one) => opened.some((it) => it.name === one.name && (it.changed ?? 0) >= (one.changed ?? 0));
   return collected({ tables: [...here.tables.filter((table) => !gone.includes(table)), ...tables], logs: [...kept, ...logs], both: globalThis.crypto?.subtle ? here.both : [],
-    left: [...here.left.filter((it) => !isBack(it)), ...old && first?.collection?.counts.missing ? [{ name: `${old.name}${had}`, how: `replaced by ${namesOf(tables.filter(isCatalogue))}` }] : []] }, said.trimEnd());
+    left: here.left.filter((it) => !isBack(it)) }, said.trimEnd());
 }
 
 /**
@@ -203,8 +199,7 @@ export const answered = (entry, keys) => entry.given ? collected({ ...entry.give
  * @param {Entry[]} logs
  * @param {[string, string][]} names
  */
-const calledAs = (logs, names) => logs.map((log) => names.reduce((it, [from, to]) => log.name === from
-  ? { ...log, name: to, was: log.was ?? from } : it, log));
+const calledAs = (logs, names) => logs.map((log) => names.reduce((it, [from, to]) => log.name === from ? { ...log, name: to, was: log.was ?? from } : it, log));
 
 /**
  * Which files count by other names than their own.
@@ -239,7 +234,7 @@ export function annotate(entry, away) {
 export function collected(given, note) {
   const { tables, logs } = given, catalogue = tables.find(isCatalogue), lacking = [...logs, ...tables].filter(isLacking);
   const entry = { id: 0, name: (catalogue ?? tables[0]).name, text: new Uint8Array(), given, note };
-  const names = [...tables, ...logs].filter(isStrange).map((it) => it.name), [name] = names, are = names[1] ? "are no tables or logs" : "";
+  const all = [...tables, ...logs], names = all.some(isStrange) ? all.filter((it) => isStrange(it) || isNeither(it)).map((it) => it.name) : [], [name] = names, are = names[1] ? "are no tables or logs" : "";
   if (name) return { ...entry, name, error: `${listing(names)} ${are || "is no table or log"}`, cure: [NO_TEXTS], files: names };
   if (lacking.length) return { ...entry, error: lacking.map(({ name, error }) => `${name}: ${error}`).join("; "), cure: [OPEN_IT], files: lacking.map((it) => it.name) };
   return catalogue ? entry : { ...entry, waits: NO_CATALOGUE };

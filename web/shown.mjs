@@ -2,7 +2,7 @@
 import { collectionView } from "./draw/collection.mjs";
 import { at, button, el } from "./draw/elements.mjs";
 import { banner, notes, signed, takenForGranted, view } from "./draw/view.mjs";
-import { isStrange, kindOf } from "./judge/files.mjs";
+import { kindOf } from "./judge/files.mjs";
 import { isUnanswered } from "./opened.mjs";
 import { leaveOut } from "./say/copies.mjs";
 import { isForeign } from "./say/refused.mjs";
@@ -82,7 +82,7 @@ function nodesOf(entry, opener, canLeave) {
 function leavingOut({ tables, logs }, files) {
   const all = [...tables, ...logs], alike = all.filter(({ name }) => files.includes(name));
   const out = (/** @type {Entry[]} */ list) => ({ "data-out": list.map((it) => all.indexOf(it)).join() });
-  const buttons = alike.length > 1 && alike.every(isStrange) ? [button(`Leave out these ${count(alike.length, "file")}`, out(alike))]
+  const buttons = alike.length > 1 && alike.every((it) => kindOf(it) === "other") ? [button(`Leave out these ${count(alike.length, "file")}`, out(alike))]
     : leaveOut(alike).map(([words, file]) => button(words, out([file])));
   return buttons.length ? [el("p", { class: "take" }, buttons)] : [];
 }

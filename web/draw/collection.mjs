@@ -78,9 +78,8 @@ export function collectionView(object, opener = () => null, canLeave = () => fal
  * When the first and the last file were changed.
  * @param {{changed?: number}[]} files
  */
-function spanOf(files, all = files.flatMap(({ changed }) => changed ?? [])) {
-  return all.length ? ` of ${[...new Set([dated(Math.min(...all)), dated(Math.max(...all))])].join(" to ")}` : "";
-}
+const spanOf = (files) => files.some(({ changed }) => changed)
+  ? ` of ${[...new Set([Math.min, Math.max].map((most) => dated(most(...files.flatMap(({ changed }) => changed ?? [])))))].join(" to ")}` : "";
 
 /**
  * A part about items, with their number. Of many with which there is nothing to do, paper has only how many belong where.
@@ -124,8 +123,7 @@ function logsOf(object, opener, title, words, list, open = false) {
 function oneLog(object, at, opens) {
   const { shelves } = summaryOf(object), log = object.logs[at], name = shelves.name(at), file = nameOf(log.was ?? log.name);
   const sha256 = log.sha256 ?? log.object?.sha256, isSame = [file, file.replace(/\.[^. ]*$/, "")].includes(name);
-  const sum = sha256 ? [el("span", { class: "sum" }, `· ${log.changed ? `of ${dated(log.changed)}\u00A0· ` : ""}`,
-    el("code", {}, `SHA-256 ${sha256}`))] : [];
+  const sum = sha256 ? [el("span", { class: "sum" }, `· ${log.changed ? `of ${dated(log.changed)}\u00A0· ` : ""}`, el("code", {}, `SHA-256 ${sha256}`))] : [];
   const words = [el("b", { title: printable(log.was ?? log.name) }, name), `${isSame ? "" : ` (${file})`}: ${saidOf(log)} `, ...sum];
   if (!opens) return el("p", { class: "log" }, words);
   const it = /** @type {HTMLDetailsElement} */ (el("details", { class: "log aside" }, el("summary", {}, words)));

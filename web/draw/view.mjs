@@ -136,8 +136,7 @@ function conflict({ conflict: it, object }) {
 function tags({ object: { certain, found } }, names) {
   const title = certain.count === 1 ? "The tag that is here" : `The ${count(certain.count, "tag")} that are here`;
   const items = () => el("ul", { class: "uids" }, certain.uids.map((uid) => el("li", {}, ...tagWith(uid, names))));
-  return !certain.count || found.unlisted === certain.count ? []
-    : [drawnLater(title, false, () => [items(), ...rest(certain.count - certain.uids.length)])];
+  return !certain.count || found.unlisted === certain.count ? [] : [drawnLater(title, false, () => [items(), ...rest(certain.count - certain.uids.length)])];
 }
 
 /**

@@ -93,6 +93,5 @@ function byRound(causing) {
       uids: slots.flatMap(({ uid }) => uid ?? []) };
   });
   const isRead = (/** @type {Cause} */ { reading }) => Number(reading === "captured");
-  return causes.sort((one, other) => isRead(one) - isRead(other) || other.round - one.round ||
-    ORDER.indexOf(one.reading) - ORDER.indexOf(other.reading));
+  return causes.sort((one, other) => isRead(one) - isRead(other) || other.round - one.round || ORDER.indexOf(one.reading) - ORDER.indexOf(other.reading));
 }

@@ -55,8 +55,7 @@ export const sumOf = async (text) => !globalThis.crypto?.subtle ? ""
 export const startOf = ({ text }) => new TextDecoder("utf-8", { ignoreBOM: true }).decode(utf8Of(text.subarray(0, MOST_SEEN), true));
 
 /** @param {Given} file */
-const headsOf = (file) => startOf(file).replace("\uFEFF", "").split(/\r?\n/, 1)[0].replace(/"/g, "").split(/[,;\t|]/)
-  .map((head) => head.trim().toLowerCase());
+const headsOf = (file) => startOf(file).replace("\uFEFF", "").split(/\r?\n/, 1)[0].replace(/"/g, "").split(/[,;\t|]/).map((head) => head.trim().toLowerCase());
 
 /**
  * Whether a table says which UIDs items have.
@@ -116,8 +115,7 @@ export function kindOf(file) {
  * The names of the logs in a text of surveys.
  * @param {Given} file
  */
-export const surveyedIn = (file) => kindOf(file) !== "surveys" ? []
-  : Array.from(new TextDecoder().decode(file.text).matchAll(A_SURVEY), ([, name]) => name);
+export const surveyedIn = (file) => kindOf(file) !== "surveys" ? [] : Array.from(new TextDecoder().decode(file.text).matchAll(A_SURVEY), ([, name]) => name);
 
 /**
  * Whether a file among others is neither a table nor a log in whatever coding.

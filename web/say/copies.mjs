@@ -23,6 +23,8 @@ const IF_THEIRS = "If these aren't their logs, write a table of places, with the
 const ONE_FILE = "One is a copy: leave out that of the shelf that wasn't counted, and count there.", OLDER = "may be an older log of the same shelf: leave out the older.";
 const OVERLAP = "The fields of two readers may overlap. If not, a log is an older one, or items were carried in between: count these fields again.";
 const WHICH = "Of one field only one log counts: which?";
+/** Rows that are gone. */
+const NO_ROW = "What is missing stays missing without its row: open the catalogue with it again, unless it was taken off the list for another reason.";
 /** A page that came by http is given no sums. */
 const NO_SUMS = "One may be a copy of another: by http the browser can't compare them. Open this page as a file, or by https, and there all files.";
 
@@ -156,6 +158,18 @@ export function older(files, both = []) {
 }
 
 /**
+ * Items that were missing with a catalogue that isn't here any more, and of which this one has no rows.
+ * @param {CollectionObject} object
+ * @returns {Doubt[]}
+ */
+export function withoutRow({ lost = [] }) {
+  const names = lost.map(([, name]) => name), [were, have, they] = lost[1] ? ["items that were", "have", "They aren't"] : ["item that was", "has", "It isn't"];
+  return !lost.length ? [] : [{ short: `${count(lost.length, were, were)} missing ${have} no row any more: ${firstOf(names)}`, cure: NO_ROW, isFirst: true,
+    words: `Missing with the catalogue that was here before, and without a row in this one: ${firstOf(names, "and", MOST_LISTED)}.`,
+    buttons: [[`${they} expected any more`, { "data-both": `no rows for ${lost.map(([uid]) => uid)}` }]] }];
+}
+
+/**
  * Logs whose files are more than half a day older than the newest one, but those of which it is asked already whether they count.
  * @param {Aged[]} logs
  * @param {string[]} [both]
@@ -196,8 +210,7 @@ export function shared({ logs, items, unexpected }, shelves, asked) {
     const those = [at, ...others[at]].sort((one, other) => one - other), names = shelves.apart(those), name = names[those.indexOf(at)];
     const tags = many.filter(({ certain_in: its }) => its.includes(at)).map((it) => printable("cells" in it && shelves.said(it, 1) || it.uid || ""));
     // of one shelf that which proves fewer may be the newer one, after a loss; one of another place is no older one
-    const ofOne = those.map((it) => logs[it]).filter((one, _, all) => all.some((it) => it !== one &&
-      (it.place === one.place || it.left_over || one.left_over)));
+    const ofOne = those.map((it) => logs[it]).filter((one, _, all) => all.some((it) => it !== one && (it.place === one.place || it.left_over || one.left_over)));
     const isOlder = all && certain > 1 && ofOne.length > 1, key = those.map((it) => olderOne(logs[it])).join();
     const isBlind = those.some((it) => logs[it].sha256 === "" && !logs[it].surveys);
     const overlap = isBlind || those.some((it) => logs[it].left_over) ? {} : { buttons: [/** @type {Button} */ (["The fields overlap", { "data-both": key }])] };

@@ -1,7 +1,7 @@
 /** What is to be known of the logs of a collection before its items are: what wasn't counted, and what isn't sure. */
 import { stemOf, unreadOf } from "../judge/files.mjs";
 import { KIND } from "../judge/objects.mjs";
-import { askedOf, copies, interchanged, leaving, ofAPlace, ofOtherDays, older, olderOne, same, shared } from "./copies.mjs";
+import { askedOf, copies, interchanged, leaving, ofAPlace, ofOtherDays, older, olderOne, same, shared, withoutRow } from "./copies.mjs";
 import { SENTENCES } from "./sentences.mjs";
 import { firstOf, MOST_LISTED, nameOf } from "./shelves.mjs";
 import { count, dated, listing, printable } from "./words.mjs";
@@ -16,8 +16,7 @@ const AS_OF = /^[^\p{L}\d]/u, ANY = "If what is there has no fixed place ('any')
 const NO_PLACE = "The catalogue names no place: delete its column place, or fill it.";
 const NONE_NAMED = "names none of these logs: correct its column log. Without it, each log is of the place after which it is named.";
 const NO_PLACES = "If items can stand on wrong shelves, add a column 'place', and name each log after its place.";
-export const IS_EMPTY = "If something should be there, check the antenna, and count again. If not, lay an item with a tag there and count " +
-  "again, to see that the antenna works.";
+export const IS_EMPTY = "If something should be there, check the antenna, and count again. If not, lay an item with a tag there and count again, to see that the antenna works.";
 const IS_CUT = "If it was cut off behind a row, what stood there is never missed: compare the number of rows with what you know, or save it again.";
 const DENIED = "Its reply may have been lost, or the list is that of another count: count this field again, in a new log.";
 
@@ -31,7 +30,7 @@ export function doubtsOf(object, shelves) {
   const first = [...copies(object, shelves), ...ofAPlace(object)], { doubts } = askedOf(first, both), those = namesIn(doubts);
   const alike = same(object, those), aged = logs.map((log, at) => ({ ...log, at, of: shelves.name(at) }));
   return askedOf([...first, ...alike, ...interchanged(object), ...ofPlaces(object, those, doubts.flatMap(({ places = [] }) => places)),
-    ...notHere(object), ...cutOff(object), ...older([...files.map((it) => ({ ...it, name: it.file })), ...aged], both),
+    ...notHere(object), ...cutOff(object), ...withoutRow(object), ...older([...files.map((it) => ({ ...it, name: it.file })), ...aged], both),
     ...ofOtherDays(aged, both), ...ruledOut(object, shelves), ...withoutAnswer(object, shelves),
     ...shared(object, shelves, [...those, ...namesIn(alike)]), ...notAsked(object, shelves)], both);
 }
@@ -113,9 +112,10 @@ function ruledOut({ logs, items }, shelves) {
  * @param {Shelves} shelves
  * @returns {Doubt[]}
  */
-function withoutAnswer({ logs }, shelves) {
-  const empty = [...logs.keys()].filter((at) => logs[at].answers === 0), names = empty.map((at) => shelves.name(at));
-  return names.length ? [{ short: `nothing answered in ${firstOf(names)}`, cure: IS_EMPTY, isFirst: empty.some((at) => !logs[at].open?.length),
+function withoutAnswer({ logs, items }, shelves) {
+  const empty = [...logs.keys()].filter((at) => logs[at].answers === 0), names = empty.map((at) => shelves.name(at)), places = new Set(empty.map((at) => logs[at].place));
+  const lost = items.filter(({ state, place }) => state === "missing" && place !== null && places.has(place)).length, cure = lost ? `${count(lost, "item")} should be there: check the antenna, and count again before you look for ${lost > 1 ? "them" : "it"}.` : IS_EMPTY;
+  return names.length ? [{ short: `nothing answered in ${firstOf(names)}`, cure, isFirst: empty.some((at) => !logs[at].open?.length),
     words: `Nothing answered in ${count(names.length, "log")}: ${firstOf(names, "and", MOST_LISTED)}.` }] : [];
 }
 

@@ -129,8 +129,7 @@ function steps({ object: { kind, found, open, captured: ifHidden, deaf }, counts
   const lookFor = found.absent === 1 ? `Look on this shelf for the item below. If it ${IS_BROKEN}`
     : `Look on this shelf for the ${count(found.absent, "item")} below. If one ${IS_BROKEN}`;
   const of = (/** @type {string} */ absent, /** @type {string} */ more) => [...found.absent ? [absent] : [], ...isMore ? [more] : []];
-  return [...first, NOT_KNOWN_WHOSE, { when: IF_EXPECTED, steps: of(lookFor, STRANGERS) },
-    { when: IF_READ, steps: of(WERE_TAKEN, WERE_OMITTED) }, STAYS, ...titles];
+  return [...first, NOT_KNOWN_WHOSE, { when: IF_EXPECTED, steps: of(lookFor, STRANGERS) }, { when: IF_READ, steps: of(WERE_TAKEN, WERE_OMITTED) }, STAYS, ...titles];
 }
 
 /**
@@ -178,5 +177,4 @@ export function headlineOfEach(looks, logs, foreign) {
  * @param {boolean} isHiding whether others may be there if their replies were hidden
  * @param {boolean} isDeaf whether others may be there if the reader went deaf
  */
-export const noOthers = (number, isHiding, isDeaf) => isHiding ? ANSWERS.ifHidden
-  : numbered(isDeaf ? ANSWERS.noOthersHeard : ANSWERS.noOthers, number);
+export const noOthers = (number, isHiding, isDeaf) => isHiding ? ANSWERS.ifHidden : numbered(isDeaf ? ANSWERS.noOthersHeard : ANSWERS.noOthers, number);

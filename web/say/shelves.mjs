@@ -5,8 +5,8 @@ import { listing, printable } from "./words.mjs";
 /** @typedef {import("../judge/objects.mjs").Item} Item */
 /** @typedef {import("../judge/objects.mjs").CollectionObject} CollectionObject */
 
-/** How many names are said in few words, and in a sentence; and how much of one that is long. */
-export const MOST_NAMES = 3, MOST_LISTED = 12, MOST_SHORT = 60;
+/** How many names are said in few words, and in a sentence; how much of one that is long; and how many are named of logs on which an answer rests. */
+export const MOST_NAMES = 3, MOST_LISTED = 12, MOST_SHORT = 60, MOST_READERS = 8;
 /** Columns that say what the page says otherwise, and that of places, as the library reads its name. */
 const KNOWN = new Set(["uid", "away"]), PLACE = /^[ \t]*place[ \t]*$/i;
 /** Shelf 2 before Shelf 10. */
@@ -46,8 +46,9 @@ export class Shelves {
   /**
    * @param {number[]} logs
    * @param {string} [last]
+   * @param {number} [most]
    */
-  names(logs, last) { return firstOf(logs.map((at) => this.name(at)), last); }
+  names(logs, last, most) { return firstOf(logs.map((at) => this.name(at)), last, most); }
 
   /** @param {number[]} logs named so that they differ: those of one place by their files */
   apart(logs) {
@@ -56,10 +57,10 @@ export class Shelves {
   }
 
   /** @param {number[]} logs */
-  readers(logs) { return `the reader${logs.length > 1 ? "s" : ""} of ${this.names(logs)}`; }
+  readers(logs) { return `the reader${logs.length > 1 ? "s" : ""} of ${this.names(logs, "and", MOST_READERS)}`; }
 
   /** @param {number[]} logs */
-  fields(logs) { return `in the field${logs.length > 1 ? "s" : ""} of ${this.names(logs)}`; }
+  fields(logs) { return `in the field${logs.length > 1 ? "s" : ""} of ${this.names(logs, "and", MOST_READERS)}`; }
 
   /**
    * Whether an item that no log proves is not on its own shelf: the logs of that rule it out.
@@ -106,6 +107,12 @@ export class Shelves {
    * @param {number} most
    */
   said({ cells = [], place }, most) { return this.columns.map(({ at }) => cells[at]?.trim() ?? "").filter((cell) => cell && cell !== place).slice(0, most).join(" · "); }
+
+  /**
+   * A missing item with its place, in few words.
+   * @param {Item} item
+   */
+  missed(item) { return printable(`${this.said(item, 1) || item.uid}${item.place === null ? "" : ` (${item.place})`}`); }
 
   /**
    * One item in brackets, as the catalogue has it, or by its UID, and where it was heard, or belongs; nothing of several.

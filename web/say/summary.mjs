@@ -139,8 +139,7 @@ function lights(object) {
     `${number.toLocaleString("en")} of ${count(all.length, one)}`;
   const value = of(isUnsettled ? heard : here, items, "item") + more(counts.away, "away") + more(counts["no tag"], "without a tag") +
     more(isPlaced ? counts.there : 0, "without a place");
-  return /** @type {Light[]} */ ([
-    { name: "Counted to the end", value: of(done, logs, "log") + lost, look: done === logs.length && !lost ? "yes" : "no" },
+  return /** @type {Light[]} */ ([{ name: "Counted to the end", value: of(done, logs, "log") + lost, look: done === logs.length && !lost ? "yes" : "no" },
     { name: isUnsettled ? "Found, if all logs count" : isPlaced ? "In place" : "Here", value,
       look: here && here + counts.away === items.length ? "yes" : differs ? "no" : "plain" }, ...isResting ? sure : []]).map((it) => isUnsettled && it.look === "yes" ? { ...it, look: "plain" } : it);
 }
