@@ -693,6 +693,8 @@ def test_a_log_joins_a_collection_or_replaces_that_of_its_place(page):
     empty = "1 item may be missing (Walden, of B); nothing answered in B."
     assert page.texts("#told h1") == [empty]
     assert page.run(TOLD) == f"{page.texts('.note')[0]} {page.texts('#told h1')[0]}"
+    assert ("Nothing answered in 1 log: B. 1 item should be there: check the antenna, and count "
+            "again before you look for it.") in page.texts(".doubts li")
     drop(page, {"B.txt": field(UID_B)})
     assert page.texts(".note") == ["B.log was replaced by what you opened under the same name."]
     assert look(page) == "yes"
@@ -913,19 +915,21 @@ def test_of_two_logs_of_one_name_one_is_left_out(page, names):
 
 
 PHOTO = b"\xff\xd8\xff\xe0\x00\x10JFIF\x00"
-STRANGE = {"photo.jpg": PHOTO, "list.pdf": b"%PDF-1.7\n", "Thumbs.db": b"\xD0\xCF\x11\xE0"}
+STRANGE = {"photo.jpg": PHOTO, "list.pdf": b"%PDF-1.7\n", "Thumbs.db": b"\xD0\xCF\x11\xE0",
+           "notes.txt": b"Dear all,\n"}
 
 
 @pytest.mark.parametrize("names", [["photo.jpg"], [*STRANGE]])
 def test_files_that_are_no_texts_are_left_out_at_once(page, names):
-    """All are named, with nothing of what is in them, and nothing is said before one agrees."""
+    """All are named, with nothing of what is in them, and nothing is said before one agrees. A text
+    beside them that is no log is left out with them."""
     drop(page, {**{name: STRANGE[name] for name in names}, **COMPLETE})
     isnt = {1: "photo.jpg is no table or log.",
-            3: "photo.jpg, list.pdf and Thumbs.db are no tables or logs."}
+            4: "photo.jpg, list.pdf, Thumbs.db and notes.txt are no tables or logs."}
     assert page.texts(".error") == [isnt[len(names)]] and look(page) == "refused"
     assert "JFIF" not in page.said() and "\u2039" not in page.said()
     assert page.texts("#told button") == [
-        "Leave out photo.jpg" if len(names) == 1 else "Leave out these 3 files"]
+        "Leave out photo.jpg" if len(names) == 1 else "Leave out these 4 files"]
     page.press("#told button")
     page.until(".banner.yes h1", "All 2 expected items are here, and no others.")
     assert page.texts(".note")[0].endswith(" were left out." if len(names) > 1 else " left out.")
@@ -1378,6 +1382,11 @@ OLDER_THAN_GONE = {
         ({"books.csv": books((UID_A, ",Hall"), (UID_B, ",B")), "B.log": field(UID_B, asks=2),
           "p.csv": b"place,log\nHall,B (1).log\nB,B.log\n"}, 2),
         ({"B (1).log": field(UID_A)}, 0)),
+    "of a place whose log has another name now": (
+        ({"books.csv": BOTH, **OLD_B}, 0),
+        ({"p.csv": b"place,log\nA,r.log\nB,B.log\n", "r.log": field()}, 3),
+        ({"p.csv": b"place,log\nA,x.log\nB,B.log\n", "x.log": field(UID_A)}, 4),
+        "Leave out r.log"),
     "a table of places, of which none is here": (
         (COMPLETE, 0), ({"places.csv": b"place,log\nA,A\nB,B\nC,C\n"}, 1), "Back")}
 NO_OLDER = {
@@ -1449,6 +1458,16 @@ def test_a_place_is_called_by_its_name_whatever_signs_it_has(page):
     drop(page, {"books.csv": books((UID_A, ",R$&"), (UID_B, ",B")), "B.log": field(UID_B),
                 "R$&.log": field(UID_A, is_heard=False)})
     page.until("h1", "no others, if the reader of R$& heard to the end.")
+
+
+def test_all_readers_are_named_on_which_an_answer_rests(page):
+    """On paper nobody can look up who the others were."""
+    files = {f"{place}.log": field(0xE004010000000000 + at, is_heard=False)
+             for at, place in enumerate("ABCDEFGH")}
+    rows = [f"E0040100000000{at:02X},{place}\n" for at, place in enumerate("ABCDEFGH")]
+    drop(page, {"books.csv": f"uid,place\n{''.join(rows)}".encode(), **files})
+    assert page.texts("h1") == ["All 8 expected items are here, and no others, if the readers of A, "
+                                "B, C, D, E, F, G and H heard to the end."]
 
 
 def test_that_both_count_is_said_of_these_files(page):
