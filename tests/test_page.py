@@ -466,7 +466,7 @@ def test_a_packed_file_is_no_catalogue(page, tmp_path):
                                               "\nSave a spreadsheet of what should be here as CSV")
     page.choose(tmp_path, {"Thumbs.db": b"\xD0\xCF\x11\xE0\xA1\xB1\x1A\xE1", "books.csv": OF_A,
                            "A.log": log_of("I1 RA QA I1 S")})
-    page.until(".error", "Thumbs.db is no table or log.")
+    page.until(".error", "Thumbs.db (a ZIP file, a spreadsheet or a document) is no table or log.")
     assert "save a spreadsheet as CSV; unpack what is packed" in page.texts(".steps")[0]
 
 
@@ -893,6 +893,8 @@ def test_items_without_a_place_are_not_called_in_place(page):
     page.drop(**{"books.csv": books.replace(b"any", b"B")})
     page.until(".lights dd", "2 of 3 items")
     page.drop(**{"books.csv": b"uid,place\nE0040100000000A1,A\nE0040100000000B2,B\n"})
+    page.until("h1", "but 1 tag of the catalogue before has no row now: B.")
+    page.press(".doubts button")
     page.until(".banner.read h1", "All 2 expected items are here, and no others, if "
                "the readers of A and B heard to the end.")
     assert page.texts(".lights dd")[:2] == ["2 of 2 logs", "2 of 2 items"]

@@ -777,12 +777,13 @@ def test_a_catalogue_is_not_replaced_without_a_word(page, how):
     else:
         drop(page, {"week 2.csv": smaller})
     name = {"dropped": "week 2.csv", "pasted": "pasted text"}[how]
-    said = f"books.csv (2 items) was replaced by {name}."
+    said = f"books.csv was replaced by {name}."
     page.until(".note", said)
     assert page.texts(".note") == [said]
     assert page.run(TOLD) == f"{said} {page.texts('h1')[0]}"
-    assert "; 1 item that was missing has no row any more: Walden (B);" in page.texts("h1")[0]
-    # what was missing isn't any more
+    asked = "; 1 tag of the catalogue before has no row now: Walden \u00B7 B;"
+    assert asked in page.texts("h1")[0]
+    # once it is heard it is said as what it is
     drop(page, {"B.log": field(UID_B)})
     assert page.texts("h1") == ["The one expected item is here; 1 item not in the catalogue; "
                                 "B.log is of no place."]
@@ -924,8 +925,9 @@ def test_files_that_are_no_texts_are_left_out_at_once(page, names):
     """All are named, with nothing of what is in them, and nothing is said before one agrees. A text
     beside them that is no log is left out with them."""
     drop(page, {**{name: STRANGE[name] for name in names}, **COMPLETE})
-    isnt = {1: "photo.jpg is no table or log.",
-            4: "photo.jpg, list.pdf, Thumbs.db and notes.txt are no tables or logs."}
+    isnt = {1: "photo.jpg (a picture) is no table or log.",
+            4: "photo.jpg (a picture), list.pdf (a PDF), Thumbs.db (a ZIP file, a spreadsheet or a "
+               "document) and notes.txt are no tables or logs."}
     assert page.texts(".error") == [isnt[len(names)]] and look(page) == "refused"
     assert "JFIF" not in page.said() and "\u2039" not in page.said()
     assert page.texts("#told button") == [
@@ -1207,15 +1209,19 @@ def test_an_older_catalogue_is_asked_about(page, tmp_path):
     page.until("h1", "1 item missing")
     for name, early in ("books.csv", 30 * DAY), ("b.csv", 20 * DAY):
         drop(page, {name: BOTH}, {name: NOON - early})
-        assert page.texts("h1") == ["All 2 expected items are in some log; but "
-                                    f"{name} is older than one that was here."]
+        assert page.texts("h1") == [
+            "All 2 expected items are in some log; but 1 tag of the catalogue before has no row "
+            f"now: Kim \u00B7 A and {name} is older than one that was here."]
         assert look(page) == "read" and not page.texts(".light.yes")
+    pressed(page, "It isn't expected any more")
     (words,) = page.texts(".doubts b")
     assert re.match(r"b.csv of 29 Oct 2026, \d\d:\d6 is older than books.csv of 18 Nov 2026, "
                     r"\d\d:\d6, which isn't here any more\.$", words)
     page.press(".doubts button")
     page.until(".banner.yes h1", "All 2 expected items are here, and no others.")
-    said = [f"{words} It was answered here: 'The older one counts'."]
+    said = ["The catalogue that was here before has 1 more tag, of which no log tells: "
+            "Kim \u00B7 A. It was answered here: 'It isn't expected any more'.",
+            f"{words} It was answered here: 'The older one counts'."]
     assert page.texts(".note") == said
     made = saved(page, tmp_path / "saved")
     drop(page, {**COMPLETE, "south.csv": BOTH}, {"south.csv": NOON - 40 * DAY})
@@ -1224,35 +1230,60 @@ def test_an_older_catalogue_is_asked_about(page, tmp_path):
     assert "b.csv of 29 Oct 2026, " in page.run("return document.body.textContent")
 
 
-# How a catalogue goes, or what it had; and whether it is asked about its row.
-ROWLESS = {"newer": ({"books.csv": BOTH}, True), "of another name": ({"week 2.csv": BOTH}, True),
-           "with the row": ({"week 2.csv": books((UID_C, ",A"), (UID_B, ",B"), (UID_A, ",A"))},
-                            False)}
+# What is here before a catalogue without a row comes, or pressed then; and the catalogue with it.
+ALL_OF_A = books(*[(uid, ",A" if uid != UID_B else ",B") for uid in ALL])
+ROWLESS = {
+    "missing": ({**COMPLETE, "books.csv": ALL_OF_A}, {"books.csv": BOTH}),
+    "not counted": ({"books.csv": ALL_OF_A, "B.log": COMPLETE["B.log"]}, {"books.csv": BOTH}),
+    "before any log": ({"books.csv": ALL_OF_A}, {"week 2.csv": BOTH}),
+    "two at once": ({"books.csv": ALL_OF_A}, {"week 2.csv": BOTH, "books.csv": ALL_OF_A},
+                    "Leave out books.csv")}
 
 
 @pytest.mark.parametrize("how", ROWLESS)
-def test_what_was_missing_is_not_complete_without_its_row(page, how, tmp_path):
-    """Nobody takes a missing item off the list by what is green then, whatever is opened later."""
-    files, is_asked = ROWLESS[how]
-    drop(page, {**COMPLETE, "books.csv": books(*[(uid, ",A" if uid != UID_B else ",B")
-                                                 for uid in ALL])},
-         {name: NOON for name in COMPLETE})
-    page.until("h1", "1 item missing (Kim, of A)")
-    drop(page, files, {name: NOON + HOUR for name in files})
-    drop(page, {"B.log": field(UID_B, asks=2)}, {"B.log": NOON + HOUR})
+def test_nothing_is_complete_by_a_row_that_is_gone(page, how, tmp_path):
+    """Whatever was known of its item, and whatever is opened later."""
+    first, then, *button = ROWLESS[how]
+    if not button:
+        drop(page, first, {name: NOON for name in first})
+    drop(page, then, {"books.csv": NOON + HOUR * (not button), "week 2.csv": NOON + HOUR})
+    for words in button:
+        pressed(page, words)
+    drop(page, {name: COMPLETE[name] for name in ("A.log", "B.log")},
+         {"A.log": NOON + HOUR, "B.log": NOON + HOUR})
     assert page.texts("h1") == [
-        "All 2 expected items are here, and no others. But 1 item that was missing has no row any "
-        "more: Kim (A)." if is_asked else "1 item missing (Kim, of A)."]
-    if not is_asked:
-        return
-    words = ("Missing with the catalogue that was here before, and without a row in this one: "
-             "Kim (A).")
-    assert look(page) == "read" and page.texts(".doubts b")[0] == words
+        "All 2 expected items are in some log; but 1 tag of the catalogue before has no row now: "
+        "Kim \u00B7 A."]
+    words = ("The catalogue that was here before has 1 more tag, of which no log tells: "
+             "Kim \u00B7 A.")
+    assert look(page) == "read" and page.texts(".doubts b") == [words]
+    page.media("print")
+    assert "This is no result yet" in page.said() and not page.texts(".signed")
+    page.media()
     pressed(page, "It isn't expected any more")
     until_green(page)
     page.open(saved(page, tmp_path / "saved"))
-    assert page.texts(".note") == [
-        f"{words} It was answered here: 'It isn't expected any more'."]
+    assert f"{words} It was answered here: 'It isn't expected any more'." in page.texts(".note")
+
+
+def test_a_row_that_was_here_again_is_asked_about_again(page):
+    drop(page, COMPLETE, {name: NOON for name in COMPLETE})
+    for hours, table in enumerate([ALL_OF_A, BOTH, ALL_OF_A, BOTH], 1):
+        drop(page, {"books.csv": table}, {"books.csv": NOON + hours * HOUR})
+        assert look(page) != "yes"
+        if table == BOTH:
+            pressed(page, "It isn't expected any more")
+            until_green(page)
+
+
+def test_a_catalogue_with_all_rows_asks_nothing(page):
+    """Nor does one in another order, or of which a tag that was without a row is heard."""
+    drop(page, COMPLETE, {name: NOON for name in COMPLETE})
+    drop(page, {"week 2.csv": books((UID_B, ",B"), (UID_A, ",A"))}, {"week 2.csv": NOON + HOUR})
+    until_green(page)
+    drop(page, {"week 3.csv": books((UID_B, ",B"))}, {"week 3.csv": NOON + 2 * HOUR})
+    assert page.texts("h1") == ["The one expected item is here; 1 item not in the catalogue; "
+                                "A.log is of no place."]
 
 
 def test_another_collection_that_is_older_is_asked_about(page):
@@ -1296,6 +1327,8 @@ def test_a_newer_file_that_was_here_is_not_forgotten(page, how):
             files, dates = step if isinstance(step, tuple) else (step, {})
             drop(page, files, {**{file: NOON for file in files}, **dates})
     one = {"A.log": "the log of A"}.get(name, name)
+    if name == "books.csv":
+        pressed(page, "It isn't expected any more")
     assert page.texts("h1") == [
         f"All 2 expected items are in some log; but {one} is older than one that was here."]
     assert look(page) == "read" and page.texts(".doubts button") == ["The older one counts"]
@@ -1387,6 +1420,22 @@ OLDER_THAN_GONE = {
         ({"p.csv": b"place,log\nA,r.log\nB,B.log\n", "r.log": field()}, 3),
         ({"p.csv": b"place,log\nA,x.log\nB,B.log\n", "x.log": field(UID_A)}, 4),
         "Leave out r.log"),
+    "one of two logs of a place": (
+        ({"books.csv": MORE, "p.csv": b"place,log\nA,r1.log\nA,r2.log\nB,B\n",
+          "r1.log": field(UID_A)}, 0), ({**OLD_B, "r2.log": field()}, 1),
+        ({"r2.log": field(UID_C)}, 2)),
+    "not read, with the name of the catalogue": (
+        ({"A.csv": books((UID_A, ""), (UID_B, ""), head="uid,title")}, 3),
+        ({"old.log": field(UID_A, UID_B)}, 0), ({"A.log.part": b"vicinity-log 3"}, 2), "Back"),
+    "a table that wasn't read, with the name of a log": (
+        ({"list.csv": BOTH}, 0), ({**OLD_A, **OLD_B}, 2), ({"A.csv.part": b"uid"}, 1), "Back"),
+    "of a name that is another's by a table that came later": (
+        ({"r1.log": field(UID_A)}, 3), ({"r1.log": field(UID_B)}, 4),
+        ({"r2.log": field(UID_A, UID_C)}, 1),
+        ({"books.csv": MORE, "p.csv": b"place,log\nA,r2.log\nB,r1.log\n"}, 0)),
+    "of another place by all that was heard": (
+        ({"books.csv": MORE, "A.log": field(UID_A, UID_C)}, 1), ({"B.log": field(UID_A)}, 2),
+        ({"B.log": field(UID_B)}, 3)),
     "a table of places, of which none is here": (
         (COMPLETE, 0), ({"places.csv": b"place,log\nA,A\nB,B\nC,C\n"}, 1), "Back")}
 NO_OLDER = {
@@ -1395,10 +1444,6 @@ NO_OLDER = {
     "whole then": ((COMPLETE, 0), ({"books.csv.part": b"uid"}, 1), ({"books.csv": BOTH}, 2)),
     "by another name": (({"books.csv": BOTH, **OLD_B}, 0), ({"shelf.log": field(UID_A)}, 1),
                         "Leave out shelf.log", (OLD_A, 1)),
-    "one of two logs of a place, called like copies": (
-        ({"books.csv": MORE, "p.csv": b"place,log\nA,A (1)\nA,A (2)\nB,B\n",
-          "A (1).log": field(UID_A)}, 0), ({**OLD_B, "A (2).log": field(UID_C)}, 1),
-        ({"A (2).log": field(UID_C, asks=2)}, 2)),
     "no log at all": ((COMPLETE, 0), ({"photo.jpg": b"\xff\xd8\xff\xe0\x00"}, 1))}
 
 
@@ -1414,6 +1459,81 @@ def test_what_is_older_than_a_file_that_is_gone_is_asked_about(page, how):
     assert (look(page) == "yes") == (how in NO_OLDER)
     assert bool(re.match(r"All \d expected items are in some log; but .* older than (one|those) "
                          "that w", headline)) == (how in OLDER_THAN_GONE)
+
+
+def test_an_answer_answers_one_question(page):
+    """Of the same two logs another one may be asked; and of the same logs twice the same."""
+    drop(page, {"books.csv": MORE, "A.log": field(UID_A, UID_C), "B.log": field(UID_B, UID_A)},
+         {"books.csv": NOON, "A.log": NOON - DAY, "B.log": NOON})
+    for words, left in ("It is of this count", 1), ("The fields overlap", 0):
+        pressed(page, words)
+        assert len(page.texts(".doubts li")) == left and (look(page) == "yes") == (not left)
+    page.press("#close")
+    drop(page, {"books.csv": books((UID_A, ",A"), (UID_C, ",B"), (UID_B, ",C")),
+                "A.log": field(UID_A, UID_B), "B.log": field(UID_A, UID_C),
+                "C.log": field(UID_B, UID_C)})
+    number = len(page.texts(".doubts li"))
+    assert number > 1
+    for left in reversed(range(number)):
+        assert look(page) != "yes"
+        pressed(page, "The fields overlap")
+        assert len(page.texts(".doubts li")) == left
+
+
+def test_an_answer_is_kept_while_logs_of_other_places_join(page):
+    """Of yesterday's log, and of one that a table of places names, until that place is counted."""
+    drop(page, {"books.csv": MORE, "p.csv": b"place,log\nA,r1.log\nA,r2.log\nB,B\n",
+                "r1.log": field(UID_A, UID_C)}, {name: NOON - DAY for name in (
+                    "books.csv", "p.csv", "r1.log")})
+    pressed(page, "It isn't of this count")
+    drop(page, OLD_B, {"B.log": NOON})
+    pressed(page, "It is of this count")
+    until_green(page)
+    drop(page, {"B.log": field(UID_B, asks=2)}, {"B.log": NOON + HOUR / 60})
+    until_green(page)
+    drop(page, {"r1.log": field(UID_A, UID_C, asks=2)}, {"r1.log": NOON + HOUR})
+    assert page.texts(".doubts button") == ["It isn't of this count"]
+
+
+def test_what_is_missing_may_be_in_any_field_of_its_place(page):
+    """One of which nothing is sure is enough."""
+    drop(page, {"books.csv": books((UID_A, ",A"), (UID_C, ",A")), "r2.log": field(UID_A),
+                "p.csv": b"place,log\nA,r1.log\nA,r2.log\n", "r1.log": field()})
+    page.until("h1", "1 item may be missing (Kim, of A); nothing answered in A.")
+    page.press("#close")
+    drop(page, {"books.csv": books((UID_A, ",A"), (UID_C, ",A")), "r2.log": field(UID_A),
+                "p.csv": b"place,log\nA,r1.log\nA,r2.log\n",
+                "r1.log": field(UID_A, is_heard=False)})
+    assert page.texts("h1")[0].startswith("1 item missing if the reader of A heard to the end")
+
+
+def test_what_is_missing_may_be_in_a_newer_log_that_counted_for_another_place(page):
+    table = {"p.csv": b"place,log\nB,scan.log\n"}
+    drop(page, {"books.csv": MORE, **table, "scan.log": field(UID_A, UID_C)},
+         {"books.csv": NOON, "p.csv": NOON, "scan.log": NOON + HOUR})
+    drop(page, {"p.csv": b"place,log\nA,scan.log\n", "scan.log": field(UID_A)},
+         {"p.csv": NOON, "scan.log": NOON})
+    assert page.texts("h1")[0].startswith("1 item may be missing (Kim, of A)")
+
+
+# A third column of a table of places, in which a catalogue's may be read.
+THIRD = ["reader|UID", '"serial, uid"', "reader; uid", "uid\u00A0"]
+
+
+@pytest.mark.parametrize("head", THIRD)
+def test_a_table_of_places_is_one_by_its_own_separator(page, head):
+    table = f"place,log,{head}\nA,r1.log,x\nA,r2.log,y\nB,B.log,z\n".encode()
+    drop(page, {"places.csv": table, **OLD_B, "books.csv": MORE, "r1.log": field(UID_A, UID_C)})
+    page.until("h1", "No log r2.log of A, as places.csv names.")
+
+
+def test_a_catalogue_may_have_a_long_first_line(page):
+    heads = ",".join(f"{'a column that nobody looks at':40}{number}" for number in range(150))
+    rows = "".join(f"{',' * 150}E0040100000000{tag}\n" for tag in ("A1", "B2"))
+    drop(page, {"export.txt": f"{heads},uid\n{rows}".encode(), "A.log": field(UID_A, UID_B)})
+    until_green(page)
+    drop(page, {"june.csv": f"{heads},uid\n{rows}{',' * 150}E0040100000000C3\n".encode()})
+    page.until("h1", "1 item missing")
 
 
 def test_of_a_place_that_has_no_log_now_a_newer_one_was_here(page):
@@ -1466,8 +1586,8 @@ def test_all_readers_are_named_on_which_an_answer_rests(page):
              for at, place in enumerate("ABCDEFGH")}
     rows = [f"E0040100000000{at:02X},{place}\n" for at, place in enumerate("ABCDEFGH")]
     drop(page, {"books.csv": f"uid,place\n{''.join(rows)}".encode(), **files})
-    assert page.texts("h1") == ["All 8 expected items are here, and no others, if the readers of A, "
-                                "B, C, D, E, F, G and H heard to the end."]
+    assert page.texts("h1") == ["All 8 expected items are here, and no others, if the readers of "
+                                "A, B, C, D, E, F, G and H heard to the end."]
 
 
 def test_that_both_count_is_said_of_these_files(page):
@@ -1495,8 +1615,9 @@ def test_a_newer_catalogue_that_a_button_left_out(page):
     """Is asked about at once; a table that was none isn't."""
     drop(page, {**COMPLETE, "books (1).csv": MORE}, {"books.csv": BEFORE, "books (1).csv": NOON})
     pressed(page, "Leave out books (1).csv")
-    assert page.texts("h1")[0].endswith("but books.csv is older than one that was here.")
+    assert page.texts("h1")[0].endswith("books.csv is older than one that was here.")
     pressed(page, "The older one counts")
+    pressed(page, "It isn't expected any more")
     until_green(page)
     drop(page, {"notes.csv": b"a,b\n"}, {"notes.csv": NOON + HOUR})
     until_green(page)
@@ -1596,7 +1717,8 @@ def test_a_later_count_by_the_name_of_a_copy_is_not_forgotten(page):
     drop(page, COMPLETE, {name: NOON for name in COMPLETE})
     assert page.texts("h1") == ["All 2 expected items are in some log; but the logs of A and B are "
                                 "older than those that were here."]
-    assert re.search(r"A.log is of 18 Nov .*, A \(1\).log was of 18 Nov ", page.texts(".doubts b")[0])
+    (words,) = page.texts(".doubts b")
+    assert re.search(r"A.log is of 18 Nov .*, A \(1\).log was of 18 Nov ", words)
 
 
 def test_a_number_behind_a_dot_is_no_ending(page):
@@ -2099,7 +2221,8 @@ def test_what_is_saved_is_what_was_shown(page, tmp_path, wait):
     told, _ = drawn_in(made.read_text())
     assert [log["object"]["sha256"] for log in told["logs"]] == [
         sha256(logs["A.log"]).hexdigest()] * 2
-    page.until(".banner.yes", "books.csv")
+    # which has a row of the other catalogue
+    page.until(".banner.read", "books.csv")
     page.open(made)
     assert page.texts("h1") == heading
 
@@ -2191,7 +2314,7 @@ def test_a_copy_of_a_log_is_older_than_one_that_was_closed(page):
     closed = "What was here (B.log) was closed."
     assert page.texts(".note") == [closed]
     page.press(".doubts button")
-    page.until("h1", IS_OLDER[0])
+    page.until("h1", "the logs of A and B are older than those that were here.")
     assert closed in page.texts(".note") and look(page) == "read"
 
 

@@ -1,8 +1,7 @@
 /** Which open files are older than what was here since the page was empty. */
-import { hasUids, isBroken, isPlaces, isSpreadsheet, isStrange, kindOf, startOf, stemOf, surveyedIn, uncopied } from "./judge/files.mjs";
+import { hasUids, isBroken, isPlaces, isSpreadsheet, isStrange, kindOf, startOf, stemOf, surveyedIn, uncopied, utf8Of } from "./judge/files.mjs";
 import { grouped, madeOnce } from "./judge/groups.mjs";
 import { SENTENCES } from "./say/sentences.mjs";
-import { Shelves } from "./say/shelves.mjs";
 
 /** @typedef {import("./opened.mjs").Entry} Entry */
 /** @typedef {import("./judge/objects.mjs").CollectionObject} CollectionObject */
@@ -13,9 +12,10 @@ import { Shelves } from "./say/shelves.mjs";
 export const UNFINISHED = /\.(crdownload|opdownload|download|part|partial|filepart|tmp)$/i, NO_LOG = "a log begins with 'vicinity-log'";
 /** How a log or surveys begin, in whatever coding; how surveys end that weren't cut off, and within how many bytes. */
 const MARK = /v\0?i\0?c\0?i\0?n\0?i\0?t\0?y\0?-/, END = /\nend \d+ \w{4}\r?\n$/, MOST_END = 40;
-/** The names by which a log by itself is compared; as what each log was judged last, and what was said with each catalogue. */
-const NAMES = /** @type {WeakMap<Entry, string[]>} */ (new WeakMap()), JUDGED = /** @type {Map<string, import("./judge/objects.mjs").OneLog>} */ (new Map()),
-  SAID_WITH = /** @type {Map<number, CollectionObject>} */ (new Map());
+/** The names by which a log by itself is compared, and the rows of a catalogue; as what each log was judged last, with the places of what was heard
+ *  in it; a row with a UID, and how many of its cells say which. */
+const NAMES = /** @type {WeakMap<Entry, string[]>} */ (new WeakMap()), ROWS = /** @type {WeakMap<Entry, [string, string][]>} */ (new WeakMap()),
+  JUDGED = /** @type {Map<string, {log: import("./judge/objects.mjs").OneLog, homes: Set<string | null>}>} */ (new Map()), A_ROW = /^(.*?)\b(E0[0-9A-F]{14})\b(.*)$/gim, MOST_OF_ROW = 2;
 
 /** @param {Entry} entry */
 export const isATable = (entry) => kindOf(entry) === "table";
@@ -93,29 +93,35 @@ export const isNeither = (it) => kindOf(it) === "other" && !isBroken(it) && !MAR
  * @param {Entry[]} away
  */
 export function putAges(object, { tables, logs }, away) {
-  const byName = new Map(logs.flatMap((file) => namesIn(file, file.name).map((name) => [name, file])));
-  const ofLogs = object.logs.flatMap((into) => {
+  const byName = new Map(logs.flatMap((file) => namesIn(file, file.name).map((name) => [name, file]))), homes = object.logs.map(() => /** @type {Set<string | null>} */ (new Set()));
+  for (const { certain_in: its, place } of object.items) if (place !== null) for (const at of its) homes[at].add(place);
+  const ofLogs = object.logs.flatMap((into, at) => {
     const file = byName.get(into.name), name = file?.was ?? into.name;
-    return file && JUDGED.set(`${file.id} ${name}`, Object.assign(into, { was: file.was })) ? { into, file, name } : [];
+    return file && JUDGED.set(`${file.id} ${name}`, { log: Object.assign(into, { was: file.was }), homes: homes[at] }) ? { into, file, name } : [];
   });
   put([...tables.map((file, at) => ({ into: object.files[at], file, name: file.name })), ...ofLogs], away, new Set(object.items.map(({ state, place }) => state === "not counted" ? place : null)));
-  const [{ id, changed = Infinity }] = tables.filter(isCatalogue), saidWith = SAID_WITH.set(id, object);
-  // beside a newer one it is asked whether this one counts
-  const before = away.flatMap((it) => (it.changed ?? 0) <= changed ? saidWith.get(it.id) ?? [] : []).filter(({ counts }) => counts.missing);
-  object.lost = before.length ? lostIn(object, before) : [];
+  object.lost = lostIn(object, away.filter(isCatalogue));
 }
 
 /**
- * Items that were missing with catalogues that aren't here any more, and of which this one has no rows.
+ * Rows of catalogues that aren't here any more, whose UID no row of this one has, and no log; each by its UID, and by what these catalogues are
+ * known.
  * @param {CollectionObject} object
- * @param {CollectionObject[]} before
+ * @param {Entry[]} before
  */
-function lostIn({ items, unexpected }, before, lost = /** @type {Map<string | null, string>} */ (new Map())) {
-  const known = new Set([...items, ...unexpected].map(({ uid }) => uid));
-  for (const { items, shelves } of before.map((it) => ({ ...it, shelves: new Shelves(it) })))
-    for (const it of items) if (it.state === "missing" && !known.has(it.uid)) lost.set(it.uid, shelves.missed(it));
-  return [...lost];
+function lostIn({ items, unexpected }, before) {
+  const known = new Set((before.length ? [...items, ...unexpected] : []).map(({ uid }) => uid));
+  const files = before.map((file) => ({ file, rows: madeOnce(ROWS, file, () => rowsIn(file)).filter(([uid]) => !known.has(uid)) })).filter(({ rows }) => rows.length);
+  return { rows: [...new Map(files.flatMap(({ rows }) => rows)).values()], key: files.map(({ file }) => file.id).join() };
 }
+
+/**
+ * The rows of a catalogue by their UIDs, each in a few of its cells.
+ * @param {Entry} file
+ * @returns {[string, string][]}
+ */
+const rowsIn = (file) => Array.from(new TextDecoder().decode(utf8Of(file.text)).matchAll(A_ROW), ([, before, uid, behind]) => [uid.toUpperCase(),
+  `${before}${behind}`.replace(/"/g, "").split(/[,;\t]/).map((it) => it.trim()).filter((it) => it).slice(0, MOST_OF_ROW).join(" \u00B7 ") || uid]);
 
 /**
  * The same of a log by itself: only of its name.
@@ -143,23 +149,33 @@ function put(open, away, without = new Set()) {
 }
 
 /**
- * Beside which older ones: tables of its kind; logs of its name, or that of its copies, that count as the same. Where there are none, all, but
- * not while its place has no log, nor where its tags are here by another name of the file. What has no mark of a log, and no column of a
- * catalogue, was one only by its name.
+ * Beside which older ones. What has no mark of a log, and no column of a catalogue, was one only by its name; what couldn't be read may have been
+ * either, and is compared with what has its name. A table is compared with that of its kind. A log is, with those of its place, if one of these
+ * has its name, or that of a copy; one of no place that is called like a copy with those of the place of that name, if a tag was heard in it
+ * that belongs there; but none in which all that was heard belongs elsewhere. Where there is none, what is gone is compared with all: but a log
+ * not while its place has no log, and none of its name is here, nor where its tags are here by another name of the file.
  * @param {Entry} gone
  * @param {Opened[]} older
  * @param {{open: Opened[], without: Set<string | null>, named: Map<string, Opened[]>, tables: Opened[]}} here
  */
 function besideOf(gone, older, { open, without, named, tables }) {
+  const orAll = (/** @type {Opened[]} */ its, all = older) => its.length ? its : all;
   if (strangeness(gone) && !MARK.test(startOf(gone))) return older.filter(({ name }) => rootOf(name) === rootOf(gone.name));
-  if (isATable(gone)) return [tables.filter(({ file }) => isPlaces(file) === isPlaces(gone)), older].find((list) => list.length) ?? [];
-  // what couldn't be read may have been a table
-  const mayBe = (/** @type {Opened} */ it) => !gone.text.length || !tables.includes(it);
+  if (!gone.text.length) return orAll(open.filter(({ name, into }) => name === gone.name.replace(UNFINISHED, "") && isByName(name, into)));
+  if (isATable(gone)) return orAll(tables.filter(({ file }) => isPlaces(file) === isPlaces(gone)));
   return namesIn(gone).flatMap((name) => {
-    const { name: as = name, place, certain } = JUDGED.get(`${gone.id} ${name}`) ?? {};
-    const isIts = (/** @type {Opened} */ { name, into }) => (place === null || bareOf(into.name ?? name) === bareOf(as)) && (place === undefined || into.place === place);
-    const its = (named.get(firstName(name)) ?? []).filter((it) => mayBe(it) && isIts(it));
-    if (its.length) return its;
-    return place && without.has(place) || certain && open.some(({ file }) => isSame(file, gone)) ? [] : older.filter(mayBe);
+    const { log: { name: as = name, place = undefined, certain = 0 } = {}, homes = new Set() } = JUDGED.get(`${gone.id} ${name}`) ?? {}, own = firstName(name);
+    const [of, called] = place === null && homes.has(own) ? [own, own] : [place, bareOf(as)], alike = (named.get(own) ?? []).filter((it) => !tables.includes(it));
+    const its = of && homes.size && !homes.has(of) ? [] : alike.filter((it) => (of === null || bareOf(it.into.name ?? it.name) === called) &&
+      (of === undefined ? isByName(it.name, it.into) : it.into.place === of));
+    const isAside = place && without.has(place) && !alike.length || certain && open.some(({ file }) => isSame(file, gone));
+    return orAll(of && its.length ? open.filter(({ into }) => into.place === of) : its, isAside ? [] : older.filter((it) => !tables.includes(it)));
   });
 }
+
+/**
+ * Whether a file is of its place, if it is of one, by its own name.
+ * @param {string} name
+ * @param {Opened["into"]} into
+ */
+const isByName = (name, { place = null }) => place === null || place === bareOf(name);

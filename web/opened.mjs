@@ -1,7 +1,8 @@
 /** What is opened: files as logs, each with its text, or together a collection, which has none of its own. */
-import { isPlaces, isStrange, surveyedIn } from "./judge/files.mjs";
+import { isPlaces, isStrange, startOf, surveyedIn } from "./judge/files.mjs";
 import { grouped } from "./judge/groups.mjs";
 import { bareOf, isATable, isCatalogue, isNeither, NO_LOG, putAge, putAges, strangeness, UNFINISHED } from "./left.mjs";
+import { foundIn } from "./say/refused.mjs";
 import { firstOf, MOST_LISTED } from "./say/shelves.mjs";
 import { count, listing, printable } from "./say/words.mjs";
 import { STOPPED } from "./work.mjs";
@@ -104,7 +105,7 @@ export function gathered(taken, all) {
   const more = [...left, ...leftAs(unnamed, "left out: what is pasted has no name"), ...leftAs(strange, `left out: ${NO_LOG}`)];
   const kept = others.filter((it) => !unnamed.includes(it) && !strange.includes(it)), both = others.flatMap((it) => it.both ?? []);
   const here = isJoining && earlier || { tables: [], both, logs: kept };
-  return [joined({ ...here, left: [...over, ...more] }, tables, logs, [note, ...wasEach(more)].join(" "), first)];
+  return [joined({ ...here, left: [...over, ...more] }, tables, logs, [note, ...wasEach(more)].join(" "))];
 }
 
 /**
@@ -141,18 +142,15 @@ const replacing = (gone) => was(gone.map(({ name, was = name }) => ({ name: was 
  * @param {Entry[]} tables
  * @param {Entry[]} logs
  * @param {string} note
- * @param {Entry} [first] what was here
  */
-function joined(here, tables, logs, note, first) {
+function joined(here, tables, logs, note) {
   // among the logs is a table that couldn't be read
   const broken = here.logs.filter((log) => isLacking(log) && tables.some(({ name }) => name === log.name.replace(UNFINISHED, "")));
   const replaced = [...sameAs(here.logs, logs), ...broken], stay = here.logs.filter((log) => !replaced.includes(log));
   const kept = stay.map((log) => log.was && tables.some(isPlaces) ? { ...log, name: log.was } : log);
-  const gone = here.tables.filter((table) => tables.some((other) => isPlaces(other) === isPlaces(table))), [old] = gone.filter(isCatalogue);
+  const gone = here.tables.filter((table) => tables.some((other) => isPlaces(other) === isPlaces(table)));
   const more = kept.length ? [...logs, ...gone.length ? [] : tables.filter(({ made }) => made)] : [];
-  const had = first?.collection ? ` (${count(first.collection.items.length, "item")})` : "";
-  const said = (old ? `${namesOf([old])}${had} was replaced by ${namesOf(tables.filter(isCatalogue))}. ` : "") +
-    was(gone.filter(isPlaces), `replaced by ${namesOf(tables.filter(isPlaces))}`) + (note.trim() && `${note.trim()} `) +
+  const said = [isCatalogue, isPlaces].map((is) => was(gone.filter(is), `replaced by ${namesOf(tables.filter(is))}`)).join("") + (note.trim() && `${note.trim()} `) +
     (replacing(replaced) || (more.length ? `${namesOf(more)} joined the logs that were here.` : ""));
   const opened = [...logs, ...tables], isBack = (/** @type {Left} */ one) => opened.some((it) => it.name === one.name && (it.changed ?? 0) >= (one.changed ?? 0));
   return collected({ tables: [...here.tables.filter((table) => !gone.includes(table)), ...tables], logs: [...kept, ...logs], both: globalThis.crypto?.subtle ? here.both : [],
@@ -234,8 +232,9 @@ export function annotate(entry, away) {
 export function collected(given, note) {
   const { tables, logs } = given, catalogue = tables.find(isCatalogue), lacking = [...logs, ...tables].filter(isLacking);
   const entry = { id: 0, name: (catalogue ?? tables[0]).name, text: new Uint8Array(), given, note };
-  const all = [...tables, ...logs], names = all.some(isStrange) ? all.filter((it) => isStrange(it) || isNeither(it)).map((it) => it.name) : [], [name] = names, are = names[1] ? "are no tables or logs" : "";
-  if (name) return { ...entry, name, error: `${listing(names)} ${are || "is no table or log"}`, cure: [NO_TEXTS], files: names };
+  const all = [...tables, ...logs], strange = all.some(isStrange) ? all.filter((it) => isStrange(it) || isNeither(it)) : [], names = strange.map((it) => it.name), [name] = names;
+  const each = strange.map((it) => `${it.name}${foundIn(startOf(it).split("\n", 1)[0])[1][1].replace(/^, but ([^:]*).*/, " ($1)").replace(/^:.*/, "")}`);
+  if (name) return { ...entry, name, error: `${listing(each)} ${names[1] ? "are no tables or logs" : "is no table or log"}`, cure: [NO_TEXTS], files: names };
   if (lacking.length) return { ...entry, error: lacking.map(({ name, error }) => `${name}: ${error}`).join("; "), cure: [OPEN_IT], files: lacking.map((it) => it.name) };
   return catalogue ? entry : { ...entry, waits: NO_CATALOGUE };
 }

@@ -87,6 +87,7 @@ function draw() {
   drawList();
   saves.hidden = !(entry?.told && !isForeign(entry.told)) && !entry?.collection;
   beside.hidden = !!pending || entry?.given !== undefined || current < 0;
+  now.isPressed ||= beside.hidden && document.activeElement === field;
   show(entry, openerOf(entry), (name) => name === undefined || filesOf([entry]).some((file) => file.name === name));
   if (!now.isPressed || pending || entries.some(isUnanswered)) return;
   now.isPressed = false;

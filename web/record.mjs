@@ -11,8 +11,7 @@ import { dated, printable, titled } from "./say/words.mjs";
 const object = JSON.parse(at("object").textContent ?? ""), shown = at("told");
 if ("items" in object) {
   const { lists = [] } = object, listOf = (/** @type {number[] | number} */ it) => typeof it === "number" ? lists[it] : it;
-  for (const item of [...object.items, ...object.unexpected])
-    Object.assign(item, { certain_in: listOf(item.certain_in), possible_in: listOf(item.possible_in) });
+  for (const item of [...object.items, ...object.unexpected]) Object.assign(item, { certain_in: listOf(item.certain_in), possible_in: listOf(item.possible_in) });
   shown.replaceChildren(...collectionView(object, (number, of = object.logs[number].object) => of ? async () => tell(of) : null));
 } else {
   shown.replaceChildren(...view(tell(object)));

@@ -122,8 +122,8 @@ function logsOf(object, opener, title, words, list, open = false) {
  */
 function oneLog(object, at, opens) {
   const { shelves } = summaryOf(object), log = object.logs[at], name = shelves.name(at), file = nameOf(log.was ?? log.name);
-  const sha256 = log.sha256 ?? log.object?.sha256, isSame = [file, file.replace(/\.[^. ]*$/, "")].includes(name);
-  const sum = sha256 ? [el("span", { class: "sum" }, `· ${log.changed ? `of ${dated(log.changed)}\u00A0· ` : ""}`, el("code", {}, `SHA-256 ${sha256}`))] : [];
+  const sha256 = log.sha256 || log.surveys || log.object?.sha256, isSame = [file, file.replace(/\.[^. ]*$/, "")].includes(name);
+  const sum = sha256 ? [el("span", { class: "sum" }, `· ${log.changed ? `of ${dated(log.changed)}\u00A0· ` : ""}`, el("code", {}, `SHA-256${log.surveys ? " of its survey's text" : ""} ${sha256}`))] : [];
   const words = [el("b", { title: printable(log.was ?? log.name) }, name), `${isSame ? "" : ` (${file})`}: ${saidOf(log)} `, ...sum];
   if (!opens) return el("p", { class: "log" }, words);
   const it = /** @type {HTMLDetailsElement} */ (el("details", { class: "log aside" }, el("summary", {}, words)));

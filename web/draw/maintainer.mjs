@@ -43,8 +43,7 @@ function why({ faulty, object: { line = 1, unnoticed } }, { lead, causes, test, 
 function left({ cycles, counts, open: { length: known }, object, requests: { open, silenced, hidden } }) {
   const end = `${counts.listed ? "before the U lines." : "at the end."} ${cycles ? IF_OFF : IF_ON}`, then = open.length ? "Then " : "";
   const how = known === object.open.count ? `${requests(open.length)} left.` : "What is left to ask first: send these, and judge the log again.";
-  return [...toSend(open, `${how} ${INSERT}${end}`),
-    ...toSend(hidden, `${then}${requests(hidden.length)} ${ASK_UNDER} ${then ? SPLIT : INSERT + end}`),
+  return [...toSend(open, `${how} ${INSERT}${end}`),...toSend(hidden, `${then}${requests(hidden.length)} ${ASK_UNDER} ${then ? SPLIT : INSERT + end}`),
     ...silenced.length && !cycles ? [el("p", {}, ASKED.newVersion)]
       : toSend(silenced.length ? ["F", ...silenced] : [], ASKED.silenced.replace("{}", count(silenced.length, "request")))];
 }

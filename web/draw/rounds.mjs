@@ -78,8 +78,7 @@ function cell(round, slot, named, name) {
   const { uid, silenced, reading } = slot, [sign, words] = LOOKS[reading], isOne = round.slots.length === 1;
   const line = String(slot.line || round.line), look = `${reading}${silenced ? " quiet" : ""}${named ? " named" : ""}`;
   const open = BigInt(Math.min(Math.floor(round.asked.len / 4) * 4, 56));
-  const said = uid === null ? [el("span", { "aria-hidden": "true" }, sign || NO_SIGN), unseen(words)]
-    : [isOne ? hex(uid) : hex(BigInt.asUintN(8, uid >> open), 2)];
+  const said = uid === null ? [el("span", { "aria-hidden": "true" }, sign || NO_SIGN), unseen(words)] : [isOne ? hex(uid) : hex(BigInt.asUintN(8, uid >> open), 2)];
   const title = [slot.line ? `line ${line}` : "", `slot ${hex(slot.number, 1)}`, ending(slot.mask), words, uid === null ? "" : hex(uid),
     printable(name), silenced ? `silenced in line ${silenced}` : ""].filter((it) => it).join(", ");
   return el("td", { title, class: look, "data-line": line, ...isOne ? { colspan: String(SLOTS) } : {} },

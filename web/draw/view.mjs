@@ -101,8 +101,7 @@ function findings({ object: { findings, found, open }, counts, silenced }, names
   const of = (/** @type {string} */ kind, /** @type {string} */ by) => findings.filter((it) => it.kind === kind)
     .map(({ uid = "", line, overlooked }) => el("li", {}, ...tagWith(uid, names),
       ...line ? [" ", el("span", { class: "by" }, overlooked ? `would have been missed in ${count(overlooked, "slot")}; ` : "", by), toLine(line)] : []));
-  const maybe = silenced.filter(({ uid }) => !known.has(hex(uid)))
-    .map(({ uid, line }) => el("li", {}, ...tagWith(hex(uid), names), " silenced in ", toLine(line)));
+  const maybe = silenced.filter(({ uid }) => !known.has(hex(uid))).map(({ uid, line }) => el("li", {}, ...tagWith(hex(uid), names), " silenced in ", toLine(line)));
   const [one, many] = listed ? ["tag here that isn't listed", "tags here that aren't listed"] : ["tag that is here", "tags that are here"];
   return [...part(KIND.ABSENT, found.absent, "listed tag that didn't answer", "listed tags that didn't answer", of(KIND.ABSENT, "ruled out by ")),
     ...part(KIND.UNLISTED, found.unlisted, one, many, of(KIND.UNLISTED, "shown by ")),

@@ -3,7 +3,7 @@
 /** @typedef {{name: string, text: Uint8Array}} Given a file */
 /** @typedef {"log" | "surveys" | "table" | "other"} Kind */
 
-const SURVEYS = "vicinity-survey ", A_SURVEY = /^vicinity-survey \d+ ([^\r\n]*)/gm, A_LOG = /^\uFEFF?vicinity-/, MOST_SEEN = 4096;
+const SURVEYS = "vicinity-survey ", A_SURVEY = /^vicinity-survey \d+ ([^\r\n]*)/gm, A_LOG = /^\uFEFF?vicinity-/, MOST_SEEN = 4096, MOST_OF_HEADS = 32_770;
 /** How a file of a spreadsheet program begins, read as UTF-8: packed as ZIP (.xlsx, .ods, .numbers), or as OLE has it (.xls). */
 const SPREADSHEET = /^(?:PK\x03\x04|\uFFFD\uFFFD\x11[\u0871\uFFFD])/;
 /** A PDF, or another file that is no text in any coding. */
@@ -55,7 +55,7 @@ export const sumOf = async (text) => !globalThis.crypto?.subtle ? ""
 export const startOf = ({ text }) => new TextDecoder("utf-8", { ignoreBOM: true }).decode(utf8Of(text.subarray(0, MOST_SEEN), true));
 
 /** @param {Given} file */
-const headsOf = (file) => startOf(file).replace("\uFEFF", "").split(/\r?\n/, 1)[0].replace(/"/g, "").split(/[,;\t|]/).map((head) => head.trim().toLowerCase());
+const headsOf = ({ text }) => columnsIn(new TextDecoder().decode(utf8Of(text.subarray(0, MOST_OF_HEADS), true)).split(/\r?\n/, 1)[0]).heads;
 
 /**
  * Whether a table says which UIDs items have.
@@ -78,14 +78,26 @@ const cellsOf = (line, separator) => Array.from(line.matchAll(new RegExp(`("(?:[
   ([, cell]) => (cell[0] === '"' ? cell.slice(1, -1).replace(/""/g, '"') : cell).replace(/^[ \t]+|[ \t]+$/g, ""));
 
 /**
+ * The columns of a table, folded: under the first of comma, semicolon and tab that gives those that a table has, as the library has it; where
+ * none does, all that there are under any.
+ * @param {string} line
+ */
+function columnsIn(line) {
+  const all = [",", ";", "\t"].map((separator) => ({ separator, heads: cellsOf(line, separator).map((head) => head.toLowerCase()) }));
+  return all.find(({ heads }) => {
+    const [uid, place, log, away] = ["uid", "place", "log", "away"].map((name) => heads.filter((head) => head === name).length);
+    return uid === 1 && place < 2 && away < 2 || !uid && place === 1 && log === 1;
+  }) ?? { separator: ",", heads: all.flatMap(({ heads }) => heads) };
+}
+
+/**
  * Which logs a table of places names, that the library has accepted.
  * @param {string} text
  */
-export const logsNamed = (text) => [",", ";", "\t"].map((separator) => {
-  const [heads, ...rows] = text.split(/\r?\n/).map((line) => cellsOf(line, separator));
-  const [place, log] = ["place", "log"].map((name) => heads.findIndex((head) => head.toLowerCase() === name));
-  return rows.flatMap((cells) => cells[place] && cells[log] ? { place: cells[place], log: cells[log] } : []);
-}).find((rows) => rows.length) ?? [];
+export function logsNamed(text) {
+  const [first, ...lines] = text.split(/\r?\n/), { separator, heads } = columnsIn(first), [place, log] = ["place", "log"].map((name) => heads.indexOf(name));
+  return lines.map((line) => cellsOf(line, separator)).flatMap((cells) => cells[place] && cells[log] ? { place: cells[place], log: cells[log] } : []);
+}
 
 /**
  * Which logs a table of places names that aren't here, of places of which others are. A log is found by its name, by that without folders, or

@@ -113,5 +113,4 @@ export function inventoryOf(frame) {
  * @param {number} slot
  * @returns {Mask}
  */
-export const slotMask = ({ slots, mask: { len, value } }, slot) =>
-  slots === 1 ? { len, value } : { len: len + SLOT_BITS, value: value | BigInt(slot) << BigInt(len) };
+export const slotMask = ({ slots, mask: { len, value } }, slot) => slots === 1 ? { len, value } : { len: len + SLOT_BITS, value: value | BigInt(slot) << BigInt(len) };

@@ -85,6 +85,6 @@ export const KIND = Object.freeze({ COMPLETE: "complete", ABSENT: "absent", UNLI
  *   logs, of which only a table of places has its text
  * @property {string[]} [both] what was answered of its files, by the keys of the questions
  * @property {string} [example] that it is one, and no count
- * @property {[string | null, string][]} [lost] the UIDs of items that were missing and have no row any more, and what these are
+ * @property {{rows: string[], key: string}} [lost] rows of catalogues that aren't here any more, of which this one has none, and by what these are known
  * @property {string[]} [left] what is said of files that were left out, or count as others, on which the answer rests
  */

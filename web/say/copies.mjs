@@ -24,7 +24,7 @@ const ONE_FILE = "One is a copy: leave out that of the shelf that wasn't counted
 const OVERLAP = "The fields of two readers may overlap. If not, a log is an older one, or items were carried in between: count these fields again.";
 const WHICH = "Of one field only one log counts: which?";
 /** Rows that are gone. */
-const NO_ROW = "What is missing stays missing without its row: open the catalogue with it again, unless it was taken off the list for another reason.";
+const NO_ROW = "What is missing stays missing without its row: open the catalogue with that again, unless nobody expects it here.";
 /** A page that came by http is given no sums. */
 const NO_SUMS = "One may be a copy of another: by http the browser can't compare them. Open this page as a file, or by https, and there all files.";
 
@@ -66,7 +66,7 @@ export function copies({ logs }, { isAsked }) {
     const when = (/** @type {string} */ date) => date && of !== ofOther ? ` of ${date}` : "";
     const heard = (/** @type {string} */ name) => `${nameOf(name)} (${count(named.get(name)?.certain ?? 0, "tag")})`;
     const buttons = /** @type {Button[]} */ ([[`Only ${other}${when(ofOther)}`, { "data-leave": later, "data-kept": first }],
-      [`Only ${one}${when(of)}`, { "data-leave": first, "data-kept": later }], ["Both: they are of different fields", { "data-both": [later, first].map((name) => olderOne(/** @type {Aged} */ (named.get(name)))).join() }]]);
+      [`Only ${one}${when(of)}`, { "data-leave": first, "data-kept": later }], ["Both: they are of different fields", { "data-both": `both: ${[later, first].map((name) => olderOne(/** @type {Aged} */ (named.get(name))))}` }]]);
     // where places are asked for, one of no place counts nowhere
     return { short: `say whether ${other} or ${one} counts`, isFirst: true, mayNotCount: true, cure: WHICH, logs: [later, first],
       words: `By its name, ${heard(later)} may be a later count than ${heard(first)}, or a copy.`, buttons: buttons.slice(0, isAsked ? 2 : 3) };
@@ -98,8 +98,7 @@ export function ofAPlace({ logs, items, unexpected, files, without_log }) {
     const one = nameOf(name), where = printable(place);
     return { short: `no log of ${where}, unless ${one} is it`, isFirst: true, mayNotCount: true, logs: [name], places: [place],
       cure: `Is it the log of ${where}? If not, it doesn't belong here.`,
-      words: isCopy ? `By its name, ${one} is a copy of the log of ${where}, which isn't here.`
-        : `No log of ${where}: but all that was heard in ${one} belongs there.`,
+      words: isCopy ? `By its name, ${one} is a copy of the log of ${where}, which isn't here.` : `No log of ${where}: but all that was heard in ${one} belongs there.`,
       buttons: [[`Count it as ${where}`, { "data-as": `${place}.log`, "data-kept": name }], [`Leave out ${one}`, { "data-leave": name }]] };
   });
 }
@@ -158,15 +157,15 @@ export function older(files, both = []) {
 }
 
 /**
- * Items that were missing with a catalogue that isn't here any more, and of which this one has no rows.
+ * Tags in a catalogue that isn't here any more, of which this one has no row.
  * @param {CollectionObject} object
  * @returns {Doubt[]}
  */
-export function withoutRow({ lost = [] }) {
-  const names = lost.map(([, name]) => name), [were, have, they] = lost[1] ? ["items that were", "have", "They aren't"] : ["item that was", "has", "It isn't"];
-  return !lost.length ? [] : [{ short: `${count(lost.length, were, were)} missing ${have} no row any more: ${firstOf(names)}`, cure: NO_ROW, isFirst: true,
-    words: `Missing with the catalogue that was here before, and without a row in this one: ${firstOf(names, "and", MOST_LISTED)}.`,
-    buttons: [[`${they} expected any more`, { "data-both": `no rows for ${lost.map(([uid]) => uid)}` }]] }];
+export function withoutRow({ lost: { rows, key } = { rows: [], key: "" } }) {
+  const names = rows.map(printable), [have, they] = names[1] ? ["have", "They aren't"] : ["has", "It isn't"];
+  return !names.length ? [] : [{ mayNotCount: true, late: [], short: `${count(names.length, "tag")} of the catalogue before ${have} no row now: ${firstOf(names)}`, cure: NO_ROW,
+    words: `The catalogue that was here before has ${count(names.length, "more tag")}, of which no log tells: ${firstOf(names, "and", MOST_LISTED)}.`,
+    buttons: [[`${they} expected any more`, { "data-both": `no row of ${key}` }]] }];
 }
 
 /**
@@ -178,7 +177,7 @@ export function withoutRow({ lost = [] }) {
 export function ofOtherDays(logs, both = []) {
   const newest = Math.max(0, ...logs.map(({ changed = 0 }) => changed)), isAsked = (/** @type {Aged} */ it) => it.newer && !both.includes(olderOne(it));
   const late = logs.filter((it) => (it.changed ?? newest) < newest - HALF_A_DAY && !isAsked(it)), names = late.map(({ name, of = name }) => of);
-  const key = logs.map(olderOne).join(), isOne = late.length === 1, [log, is, they] = isOne ? ["log", "is", "It is"] : ["logs", "are", "They are"];
+  const key = `${late.map(olderOne)} within ${Math.floor(newest / HALF_A_DAY)}`, isOne = late.length === 1, [log, is, they] = isOne ? ["log", "is", "It is"] : ["logs", "are", "They are"];
   const other = `${isOne ? "its file" : `the file of ${names[0]}`} is of ${dated(late[0]?.changed)}, the newest of ${dated(newest)}`;
   return !late.length ? [] : [{ short: `the ${log} of ${firstOf(names)} ${is} more than 12 hours older`, mayNotCount: true, late: late.flatMap(({ at = [] }) => at),
     words: `The ${log} of ${firstOf(names, "and", MOST_LISTED)} ${is} older than the others: ${other}.`,
@@ -211,7 +210,7 @@ export function shared({ logs, items, unexpected }, shelves, asked) {
     const tags = many.filter(({ certain_in: its }) => its.includes(at)).map((it) => printable("cells" in it && shelves.said(it, 1) || it.uid || ""));
     // of one shelf that which proves fewer may be the newer one, after a loss; one of another place is no older one
     const ofOne = those.map((it) => logs[it]).filter((one, _, all) => all.some((it) => it !== one && (it.place === one.place || it.left_over || one.left_over)));
-    const isOlder = all && certain > 1 && ofOne.length > 1, key = those.map((it) => olderOne(logs[it])).join();
+    const isOlder = all && certain > 1 && ofOne.length > 1, key = `${logs[at].name} overlaps: ${those.map((it) => olderOne(logs[it]))}`;
     const isBlind = those.some((it) => logs[it].sha256 === "" && !logs[it].surveys);
     const overlap = isBlind || those.some((it) => logs[it].left_over) ? {} : { buttons: [/** @type {Button} */ (["The fields overlap", { "data-both": key }])] };
     const buttons = !isOlder ? overlap : ofOne.length <= MOST_LEFT ? leaving(ofOne) : {};

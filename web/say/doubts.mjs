@@ -45,8 +45,8 @@ const placesIn = (files) => files.find(({ text }) => text !== undefined);
  */
 function notHere({ logs, files }) {
   const table = placesIn(files), unread = unreadOf(table?.text ?? "", logs), name = printable(table?.file ?? ""), isOne = unread.length === 1;
-  const those = (/** @type {string} */ of) => unread.map(({ place, log }) => printable(`${log} ${of} ${place}`)), key = [table?.sha256, table?.changed, those("of"), logs.map(olderOne)].join();
-  const [they, them, is] = isOne ? ["It isn't", "its row", "isn't"] : ["They aren't", "their rows", "aren't"];
+  const those = (/** @type {string} */ of) => unread.map(({ place, log }) => printable(`${log} ${of} ${place}`)), lacking = new Set(unread.map(({ place }) => place));
+  const key = [table?.sha256, table?.changed, those("of"), logs.filter(({ place }) => lacking.has(place ?? "")).map(olderOne)].join(), [they, them, is] = isOne ? ["It isn't", "its row", "isn't"] : ["They aren't", "their rows", "aren't"];
   return !unread.length ? [] : [{ isFirst: true, mayNotCount: true, short: `no log ${firstOf(those("of"))}, as ${name} names`,
     words: `${name} names ${firstOf(those("for"), "and", MOST_LISTED)}, which ${is} here: what may be there isn't counted.`,
     cure: `Open ${isOne ? "it" : "them"} too, or delete ${them} in ${name}.`, buttons: [[`${they} of this count`, { "data-both": key }]] }];

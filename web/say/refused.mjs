@@ -20,7 +20,7 @@ const [BEGINS, LOG_IS] = SENTENCES.aLog, CODED = /[\0\uFEFF\uFFFD]/g, isOfALog =
  * What a file is that is no log, with its name.
  * @param {string} text the first line
  */
-const foundIn = (text) => Object.entries(SENTENCES.files).find(([, [begins]]) => new RegExp(begins, "i").test(text)) ?? ["", ["", ""]];
+export const foundIn = (text) => Object.entries(SENTENCES.files).find(([, [begins]]) => new RegExp(begins, "i").test(text)) ?? ["", ["", ""]];
 
 /**
  * What is wrong with a whole text, by what its first line has.
@@ -65,7 +65,7 @@ export function refused(told) {
 export function noAnswer({ name = "", line = 0, fault = "", quoted = "", files }) {
   const tables = files.length ? `: the tables are ${files.join(", ")}` : "", both = `${files.join(" and ")} are both catalogues: leave one out`;
   if (!name) return { error: files.length === 2 ? both : `these aren't the files of a collection${tables}`, cure: [ONE_OF_EACH], files };
-  const { wrong, fix } = fault === "Columns" && !TABLE.test(name) ? wrongFile(quoted) : wrongTable(quoted, line, fault);
+  const { wrong, fix } = fault === "SameName" ? advice(fault, SENTENCES.tables) : fault === "Columns" && !TABLE.test(name) ? wrongFile(quoted) : wrongTable(quoted, line, fault);
   if (fault === "SameName") return { error: `${name}: ${wrong}`, cure: [fix], files };
   if (isSpreadsheet(quoted)) return { error: `${name} is a spreadsheet: save it as CSV`, cure: [SENTENCES.files.sheet[3], "If it isn't the catalogue, leave it out."], files };
   return { error: `${name}, line ${line}: ${wrong}`, cure: [fix, ...quoted && !quoted.includes("\0") ? [`Line ${line} is: ${printable(quoted)}`] : []], files };
@@ -85,6 +85,7 @@ const wrongFile = (text) => ({ wrong: `this is no log and no table${foundIn(text
  */
 function wrongTable(text, line, fault) {
   const [name, [, what]] = foundIn(text), first = fault === "Utf8" ? ofFirst(text, line) : undefined;
+  if (fault === "Columns" && name === "list") return { wrong: "it is a list of tag numbers without a name of its column", fix: SENTENCES.files.list.slice(2).join(" ") };
   if (line === 1 && !IN_TABLES.includes(name)) return { wrong: `this is no table${what}`, fix: "Open the table itself, saved as CSV." };
   if (text.includes("\0") && !isOfALog(text) && foundIn(text.replace(CODED, ""))[0] !== "surveys") return advice("utf16", SENTENCES.tables);
   if (first) return { wrong: first[0], fix: first[1] };

@@ -129,7 +129,7 @@ function steps({ object: { kind, found, open, captured: ifHidden, deaf }, counts
   const lookFor = found.absent === 1 ? `Look on this shelf for the item below. If it ${IS_BROKEN}`
     : `Look on this shelf for the ${count(found.absent, "item")} below. If one ${IS_BROKEN}`;
   const of = (/** @type {string} */ absent, /** @type {string} */ more) => [...found.absent ? [absent] : [], ...isMore ? [more] : []];
-  return [...first, NOT_KNOWN_WHOSE, { when: IF_EXPECTED, steps: of(lookFor, STRANGERS) }, { when: IF_READ, steps: of(WERE_TAKEN, WERE_OMITTED) }, STAYS, ...titles];
+  return [...first, ...first.length ? [] : [NOT_KNOWN_WHOSE], { when: IF_EXPECTED, steps: of(lookFor, STRANGERS) }, { when: IF_READ, steps: of(WERE_TAKEN, WERE_OMITTED) }, STAYS, ...titles];
 }
 
 /**

@@ -41,7 +41,7 @@ export const SENTENCES = {
     "SameName": ["another log has that name, or is of a place by the same name", "Rename one of the two logs, or leave out the older one."],
     "Survey": ["this isn't a survey as vicinity survey writes it: it was cut off or changed", "Make the survey again, or copy its file again."],
     "utf16": ["it seems to be UTF-16, but cut off, changed, or without its mark", "Copy the file again, or save the table as 'CSV UTF-8'."],
-    "unnamed": ["it is an item already: the names of the columns are missing", "Write a line with them above it, as uid,title,place. Overwrite nothing."],
+    "unnamed": ["it is an item already: the names of the columns are missing", "Write a line above it with a name for each column, as uid,title,place. Overwrite nothing."],
     "turned": ["the bytes of the UID are in the opposite order, with E0 last", "Turn the bytes of each UID round, so that E0 comes first: A1000000000104E0 is E0040100000000A1."]
   },
   "first": { "\u0000": ["it seems to be UTF-16", "Save it as ASCII or UTF-8."], "\uFEFF": ["it begins with a byte order mark", "Save it as UTF-8 without one."], "\r": ["its lines end with CR alone", "Save it with LF, or CR LF, at the end of each line: editors call these Unix and Windows."] },
@@ -56,7 +56,7 @@ export const SENTENCES = {
     "packed": ["^(?:\u001F\uFFFD\b|BZh|\uFFFD7zXZ|7z\uFFFD\uFFFD'|Rar!|\\(\uFFFD/\uFFFD)", ", but a packed file", "Unpack it, and open what was in it."],
     "trace": ["^\\s*(?:\\[[+=!#?|-]\\] |\\[(?:usb|bt|fpc)|pm3 |proxmark|Recorded activity|Start \\| +End \\| Src)", ", but a trace of a Proxmark",
       "It hasn't the slots in which no tag answered, so it can't show whether a tag was missed.", "Ask whoever maintains a reader for a log: docs/READERS.md of vicinity says which readers can write one, and how."],
-    "frames": ["^(?:\\W*[\\d:.,T-]+Z?\\W+)?(?:\\W*(?:TX|RX|sent|recv|received|Rdr|Tag|Reader|->|<-|[<>])\\W*)?(?:[0-9A-F]{2} ){3}", ", but seems to be a trace, or a reader's own log", "Counting again gives the same: ask whoever maintains the reader to have it write logs (docs/READERS.md of vicinity says how)."],
+    "frames": ["^(?:\\W*[\\d:.,T-]+Z?\\W+)?(?:\\W*(?:TX|RX|sent|recv|received|Rdr|Tag|Reader|->|<-|[<>])\\W*)?(?:[0-9A-F]{2} ){3}|^\\W*\\d{4}-\\d\\d-\\d\\d[ T]\\d\\d:\\d\\d[^,;\\t]*$", ", but seems to be a trace, or a reader's own log", "Counting again gives the same: ask whoever maintains the reader to have it write logs (docs/READERS.md of vicinity says how)."],
     "json": ["^\\s*(?:\\{\\s*[\"}]|\\[\\s*[{\"\\[]|[{\\[]\\s*$)", ", but JSON, which programs exchange", "Open the log of which it was written, or a table (CSV)."],
     "turned": ["^\\W{0,3}(?!E0)(?:[0-9A-F]{2}[ :.-]?){7}E0\\W{0,3}$", ", but a list of tag numbers whose bytes are in the opposite order, with E0 last",
       "If it is what should be here: turn the bytes of each number round, so that E0 comes first, write uid as the first line, and open it with the logs."],

@@ -109,12 +109,6 @@ export class Shelves {
   said({ cells = [], place }, most) { return this.columns.map(({ at }) => cells[at]?.trim() ?? "").filter((cell) => cell && cell !== place).slice(0, most).join(" · "); }
 
   /**
-   * A missing item with its place, in few words.
-   * @param {Item} item
-   */
-  missed(item) { return printable(`${this.said(item, 1) || item.uid}${item.place === null ? "" : ` (${item.place})`}`); }
-
-  /**
    * One item in brackets, as the catalogue has it, or by its UID, and where it was heard, or belongs; nothing of several.
    * @param {Item[]} items
    */

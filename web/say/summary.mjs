@@ -60,7 +60,7 @@ export const summaryOf = (object) => madeOnce(SUMMARIES, object, () => {
 function lostOf({ logs }, shelves, missing, unsure) {
   const isWeak = (/** @type {number} */ at) => unsure.has(at) || !logs[at].answers || logs[at].hidden, isDeaf = (/** @type {number} */ at) => isWeak(at) || logs[at].deaf;
   const all = [...logs.keys()], ofPlace = (/** @type {string | null} */ place) => place === null ? all : shelves.counted.get(place) ?? [];
-  const places = grouped(new Set(missing.map(({ place }) => place)), (place) => ofPlace(place).every(isWeak) ? "maybe" : ofPlace(place).every(isDeaf) ? "ifHeard" : "sure");
+  const places = grouped(new Set(missing.map(({ place }) => place)), (place) => ofPlace(place).some(isWeak) ? "maybe" : ofPlace(place).some(isDeaf) ? "ifHeard" : "sure");
   const weak = new Set(places.get("maybe")), [known, maybe] = [false, true].map((is) => missing.filter(({ place }) => weak.has(place) === is));
   const of = (/** @type {"ifHeard" | "maybe"} */ kind) => shelves.sorted([...new Set(places.get(kind)?.flatMap(ofPlace))]);
   return { known, maybe, deaf: of("ifHeard").filter((at) => logs[at].deaf), hiding: of("maybe").filter((at) => logs[at].hidden) };

@@ -38,8 +38,7 @@ export function whyOpen({ causes, silenced, neverAsked, counts, last }) {
 function together(causes) {
   const [{ reading }] = causes, rounds = count(causes.length, "round"), slots = count(causes.flatMap((cause) => cause.slots).length, "slot");
   const at = `, at last in those of ${lines(causes.slice(0, MOST_NAMED_ROUNDS).map((cause) => cause.round).reverse())}.`;
-  return reading === "unreached" ? `In ${rounds} ${slots} weren't reached${at}`
-    : `In ${slots} of ${rounds} ${HELD[reading]}, and ${NOT_SETTLED}${at}`;
+  return reading === "unreached" ? `In ${rounds} ${slots} weren't reached${at}` : `In ${slots} of ${rounds} ${HELD[reading]}, and ${NOT_SETTLED}${at}`;
 }
 
 /**

@@ -19,16 +19,14 @@ export const count = (number, one, many = `${one}s`) => `${number.toLocaleString
  * @param {string | string[]} sentence or two, of which the first is that for one
  * @param {number} number
  */
-export const numbered = (sentence, number) => (typeof sentence === "string" ? sentence : sentence[number === 1 ? 0 : 1])
-  .replace("{}", number.toLocaleString("en"));
+export const numbered = (sentence, number) => (typeof sentence === "string" ? sentence : sentence[number === 1 ? 0 : 1]).replace("{}", number.toLocaleString("en"));
 
 /**
  * When a file was changed.
  * @param {number} [changed]
  * @param {boolean} [isExact]
  */
-export const dated = (changed, isExact) => changed
-  ? new Date(changed).toLocaleString("en-GB", { dateStyle: "medium", timeStyle: isExact ? "medium" : "short" }) : "";
+export const dated = (changed, isExact) => changed ? new Date(changed).toLocaleString("en-GB", { dateStyle: "medium", timeStyle: isExact ? "medium" : "short" }) : "";
 
 /**
  * a, b and c.
