@@ -69,7 +69,7 @@ function nodesOf(entry, opener, canLeave) {
     ...given && files ? leavingOut(given, files) : []];
   // what stands below isn't said twice
   const more = (collection?.left ?? []).reduce((words, it) => words.replace(it, ""), note).trim(), above = notes(more ? [printable(more)] : []);
-  if (error) return [...above, banner({ look: "refused", sign: "?", headline: unanswered(name, error), lights: [] }, printable(name)), ...said];
+  if (error) return [...above, banner({ look: "refused", sign: "?", headline: unanswered(name, error), lights: [] }, files?.[1] ? count(files.length, "file") : printable(name)), ...said];
   if (waits) return [...above, el("h1", {}, waits), ...said];
   return collection ? [...above, ...collectionView(collection, opener, canLeave)] : told ? [...above, ...view(told, undefined, true, true)] : [];
 }

@@ -150,15 +150,31 @@ def place_of(log):
     return re.split(r"[/\\]", log["name"])[-1] if log["place"] is None else log["place"]
 
 
+#: How many readers a headline names, if they are more.
+MOST_READERS = 8
+
+
 def names_those(headline, words, told, reading):
     """Whether the logs that a headline names are those that may be wrong in a reading, of which it
     names the first if they are many."""
     found = words.search(headline)
     names = {place_of(log) for log in told["logs"]
              if log[reading] and log["field"] == "possible" and not log["open"]}
-    said = re.split(r", | and ", found[1]) if found else []
-    shown = {it for it in said if not MORE.fullmatch(it)}
-    return shown <= names and (len(shown) == len(said) and shown == names or len(shown) == 3)
+    shown = shown_of(found[1] if found else "", names)
+    return shown is not None and (shown == names or len(shown) == MOST_READERS)
+
+
+def shown_of(text, names):
+    """Which of some names a list of names has; None if it has others. A name may have a comma."""
+    one = "|".join(re.escape(name) for name in sorted(names, key=len, reverse=True))
+    listed = re.compile(rf"({one}|{MORE.pattern})(?:, | and |$)")
+    shown, at = set(), 0
+    while at < len(text):
+        if not (found := listed.match(text, at)):
+            return None
+        shown.add(found[1])
+        at = found.end()
+    return shown & names
 
 
 def named(told, state):
@@ -210,8 +226,7 @@ def collection_says_too_much(said):
         if which and not any(f"{kind}{which}{name})" in headline for name in named(told, state)):
             return f"{kind}: another one"
     for names in re.findall(IF_HEARD.replace(".+?", "(.+?)"), headline.partition("no other")[0]):
-        if not {it for it in re.split(", | and ", names) if not MORE.fullmatch(it)} <= {
-                place_of(log) for log in logs if log["deaf"]}:
+        if shown_of(names, {place_of(log) for log in logs if log["deaf"]}) is None:
             return "missing, if another reader heard"
     if told_of != wanted:
         return f"{told_of}, and not {wanted}"
