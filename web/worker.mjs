@@ -40,8 +40,8 @@ function why(error, files = []) {
  */
 async function warm(sample) {
   const library = await loading, rounds = new TextDecoder().decode(sample).replace(/^[vU].*\n/gm, "");
-  const long = new TextEncoder().encode(`vicinity-log 3\n${`F\n${rounds}`.repeat(FIELDS)}`);
-  for (let left = WARMING; library && left && !isAsked; left--) tell(await judge(library, long, ""), long);
+  const [long, text] = [`vicinity-log 3\n${`F\n${rounds}`.repeat(FIELDS)}`, "uid\nnone\n"].map((it) => new TextEncoder().encode(it)), files = [{ name: "A.csv", text }, { name: "A.log", text: sample }];
+  for (let left = WARMING; library && left && !isAsked; left--) await judgeAll(library, files).then(() => judge(library, long, "")).then((it) => tell(it, long));
 }
 
 onmessage = async ({ data: { id, text, name, isKept, changed, files, isIndexed, index, ...data } }) => {

@@ -3,8 +3,8 @@ import { hex, UID_BITS } from "../judge/frames.mjs";
 
 /** @typedef {import("../judge/frames.mjs").Mask} Mask */
 
-/** The bits that each UID has; and a name that is too long for a title. */
-const E0 = 0xE0n << BigInt(UID_BITS), LONG = /^(.{36}).{4,}$/su;
+/** The bits that each UID has; and a name that is too long for a title. What writes numbers, and dates to the minute and to the second, takes long to make. */
+const E0 = 0xE0n << BigInt(UID_BITS), LONG = /^(.{36}).{4,}$/su, NUMBERS = new Intl.NumberFormat("en"), DATES = /** @type {const} */ (["short", "medium"]).map((timeStyle) => new Intl.DateTimeFormat("en-GB", { dateStyle: "medium", timeStyle }));
 
 /**
  * 1 tag, 2,000 tags.
@@ -12,7 +12,7 @@ const E0 = 0xE0n << BigInt(UID_BITS), LONG = /^(.{36}).{4,}$/su;
  * @param {string} one
  * @param {string} [many]
  */
-export const count = (number, one, many = `${one}s`) => `${number.toLocaleString("en")} ${number === 1 ? one : many}`;
+export const count = (number, one, many = `${one}s`) => `${NUMBERS.format(number)} ${number === 1 ? one : many}`;
 
 /**
  * A sentence with a number in it.
@@ -26,7 +26,7 @@ export const numbered = (sentence, number) => (typeof sentence === "string" ? se
  * @param {number} [changed]
  * @param {boolean} [isExact]
  */
-export const dated = (changed, isExact) => changed ? new Date(changed).toLocaleString("en-GB", { dateStyle: "medium", timeStyle: isExact ? "medium" : "short" }) : "";
+export const dated = (changed, isExact) => changed ? DATES[isExact ? 1 : 0].format(changed) : "";
 
 /**
  * a, b and c.
