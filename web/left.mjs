@@ -111,8 +111,8 @@ export function putAges(object, { tables, logs }, away) {
  */
 function lostIn({ items, unexpected }, before) {
   const known = new Set((before.length ? [...items, ...unexpected] : []).map(({ uid }) => uid));
-  const files = before.map((file) => ({ file, rows: madeOnce(ROWS, file, () => rowsIn(file)).filter(([uid]) => !known.has(uid)) })).filter(({ rows }) => rows.length);
-  return { rows: [...new Map(files.flatMap(({ rows }) => rows)).values()], key: files.map(({ file }) => file.id).join() };
+  const files = before.map((file) => ({ file, its: madeOnce(ROWS, file, () => rowsIn(file)).filter(([uid]) => !known.has(uid)) })).filter(({ its }) => its.length), rows = new Map(files.flatMap(({ its }) => its));
+  return { rows: [...rows.values()], key: `${files.map(({ file }) => file.id)}: ${[...rows.keys()]}` };
 }
 
 /**
