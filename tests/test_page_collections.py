@@ -1536,6 +1536,11 @@ def test_a_catalogue_may_have_a_long_first_line(page):
     page.until("h1", "1 item missing")
 
 
+def test_an_item_without_a_fixed_place_is_called_by_its_title(page):
+    drop(page, {"books.csv": books((UID_A, ",A"), (UID_C, ",any")), "A.log": field(UID_A)})
+    page.until("h1", "1 item missing (Kim).")
+
+
 def test_of_a_place_that_has_no_log_now_a_newer_one_was_here(page):
     """Though nothing isn't counted for that: of the name of another's, and of none that is here."""
     asked = "in some log; no log of C; the log of A is older than one that was here."

@@ -209,7 +209,9 @@ def collection_says_too_much(said):
             return "no others"
         if "no other" in headline and not names_those(headline, DEAF, told, "deaf"):
             return "no others, though a reader may have gone deaf"
-        if is_complete and any(log["hidden"] for log in logs) and (
+        # where some log may not count, nothing is said of others
+        if is_complete and "in some log" not in is_all[0] and any(
+                log["hidden"] for log in logs) and (
                 HIDDEN not in headline or not names_those(headline, WHERE, told, "hidden")):
             return f"it lacks {HIDDEN!r}, and where"
     if is_complete and is_all:

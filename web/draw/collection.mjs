@@ -28,7 +28,7 @@ const NOT_EXPECTED = "What isn't in the catalogue: find it by reading the items 
 const IS_BACK = "What is back was away, as the catalogue says: record that it is here.";
 const ELSEWHERE = "The logs of their shelves rule these out. Count again first, as said above; then look there: a tag may be covered.";
 const NO_TAG = "These rows of the catalogue have no UID, so nothing is known of them: look for them by eye.";
-const MAY_BE = "may be missing: look for it", UNKNOWN_YET = "Whether these are here isn't known until the logs above are counted again.";
+const MAY_BE = "may be missing: count again, or look for it", UNKNOWN_YET = "Whether these are here isn't known until the logs above are counted again.";
 const NOT_COUNTED = "Nothing is known of these, as their places have no log.", IN_FULL = "The whole list is in the page, not on paper.";
 const WAITS = "Open or drop the logs, in any order; each is of the place after which it is named, as A.log of A. A catalogue says what should be here: a list of what was read would always agree.";
 const AGAIN_BROKEN = " If a log contradicts itself again, send it and this page to whoever maintains the reader.";

@@ -106,7 +106,7 @@ export class Shelves {
    * @param {Item} item
    * @param {number} most
    */
-  said({ cells = [], place }, most) { return this.columns.map(({ at }) => cells[at]?.trim() ?? "").filter((cell) => cell && cell !== place).slice(0, most).join(" · "); }
+  said({ cells = [], place }, most) { return this.columns.map(({ head, at }) => PLACE.test(head) ? "" : cells[at]?.trim() ?? "").filter((cell) => cell && cell !== place).slice(0, most).join(" · "); }
 
   /**
    * One item in brackets, as the catalogue has it, or by its UID, and where it was heard, or belongs; nothing of several.
