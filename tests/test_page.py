@@ -880,7 +880,8 @@ def test_one_item_that_is_here_beside_a_log_of_no_place(page):
     page.drop(**{"books.csv": OF_A, "A.log": log_of("I1 RA QA I1 S"), "cart.log": log_of("I1 RB")})
     page.until("h1", "cart.log is of no place")
     page.drop(**{"cart.log": log_of("I1 S")})
-    page.until("h1", "The one expected item is here; cart.log is of no place; nothing answered")
+    page.until("h1", "Cart.log is of no place; nothing answered in cart.log. Together the logs "
+               "have the one expected item.")
 
 
 def test_items_without_a_place_are_not_called_in_place(page):

@@ -457,8 +457,8 @@ def test_what_may_be_in_another_log_is_not_counted_on_a_shelf_without_one(page):
 
 def test_a_log_of_no_place(page):
     drop(page, {**COMPLETE, "cart.log": field()})
-    assert page.texts("#told h1") == ["All 2 expected items are here; cart.log is of no place; "
-                                      "nothing answered in cart.log."]
+    assert page.texts("#told h1") == ["Cart.log is of no place; nothing answered in cart.log. "
+                                      "Together the logs have all 2 expected items."]
     assert page.texts(".doubts b") == ["1 log of no place: cart.log.",
                                        "Nothing answered in 1 log: cart.log."]
     page.press(".doubts button")
@@ -532,7 +532,8 @@ def test_it_is_asked_which_of_two_is_the_older(page, how, tmp_path):
         page.press("#back")
     page.until("h1", "in both" if how != "of no place" else "is of no place")
     page.press(".doubts button", at)
-    page.until("h1", "1 item missing" if how != "of no place" else "no log of B")
+    page.until("h1", {"of no place": "no log of B", "of one place": "1 item may be missing"}.get(
+        how, "1 item missing"))
     assert look(page) == "no" and page.texts(".note") == [f"{earlier} was left out."]
     page.open(made)
     assert f"{later} was left out." in page.texts(".note")
@@ -785,8 +786,8 @@ def test_a_catalogue_is_not_replaced_without_a_word(page, how):
     assert asked in page.texts("h1")[0]
     # once it is heard it is said as what it is
     drop(page, {"B.log": field(UID_B)})
-    assert page.texts("h1") == ["The one expected item is here; 1 item not in the catalogue; "
-                                "B.log is of no place."]
+    assert page.texts("h1") == ["1 item not in the catalogue; B.log is of no place. Together the "
+                                "logs have the one expected item."]
 
 
 def test_a_table_of_places_is_not_replaced_without_a_word(page):
@@ -1266,6 +1267,15 @@ def test_nothing_is_complete_by_a_row_that_is_gone(page, how, tmp_path):
     assert f"{words} It was answered here: 'It isn't expected any more'." in page.texts(".note")
 
 
+@pytest.mark.parametrize("spelled", ["E0:04:01:00:00:00:00:C3", "E0 04 01 00 00 00 00 C3",
+                                     "e004-0100-0000-00c3", '"E0040100000000C3"'])
+def test_a_row_is_known_however_its_uid_is_written(page, spelled):
+    drop(page, {**COMPLETE, "books.csv": BOTH + f"{spelled},Kim,A\n".encode()})
+    page.until("h1", "1 item missing (Kim, of A)")
+    drop(page, {"books.csv": BOTH})
+    page.until("h1", "but 1 tag of the catalogue before has no row now: Kim \u00B7 A.")
+
+
 def test_a_row_that_was_here_again_is_asked_about_again(page):
     drop(page, COMPLETE, {name: NOON for name in COMPLETE})
     for hours, table in enumerate([ALL_OF_A, BOTH, ALL_OF_A, BOTH], 1):
@@ -1282,8 +1292,8 @@ def test_a_catalogue_with_all_rows_asks_nothing(page):
     drop(page, {"week 2.csv": books((UID_B, ",B"), (UID_A, ",A"))}, {"week 2.csv": NOON + HOUR})
     until_green(page)
     drop(page, {"week 3.csv": books((UID_B, ",B"))}, {"week 3.csv": NOON + 2 * HOUR})
-    assert page.texts("h1") == ["The one expected item is here; 1 item not in the catalogue; "
-                                "A.log is of no place."]
+    assert page.texts("h1") == ["1 item not in the catalogue; A.log is of no place. Together the "
+                                "logs have the one expected item."]
 
 
 def test_another_collection_that_is_older_is_asked_about(page):
@@ -1436,6 +1446,19 @@ OLDER_THAN_GONE = {
     "of another place by all that was heard": (
         ({"books.csv": MORE, "A.log": field(UID_A, UID_C)}, 1), ({"B.log": field(UID_A)}, 2),
         ({"B.log": field(UID_B)}, 3)),
+    "never judged, of another place by what was heard": (
+        ({"B.log": field(UID_A)}, 2),
+        ({"books.csv": MORE, "A.log": field(UID_A, UID_C), "B.log": field(UID_B)}, 1),
+        ({"B.log": field(UID_B, asks=2)}, 3)),
+    "refused, of another place by what was heard": (
+        ({"books.csv": MORE, "A.log": field(UID_A, UID_C), "B.log": field(UID_B),
+          "B.txt": field(UID_A)}, 1), "Leave out B.txt", ({"A.log": field(UID_A, UID_C)}, 0)),
+    "of two places, as tables of places came": (
+        ({"books.csv": BOTH, "p.csv": b"place,log\nA,r1.log\n", "r1.log": field()}, 3),
+        ({"p.csv": b"place,log\nA,r3.log\nB,r1.log\n"}, 4), ({"r3.log": field(UID_A)}, 2),
+        ({"r1.log": field(UID_B)}, 4)),
+    "surveys that were cut off, called like a log": (
+        (COMPLETE, 0), ({"A.txt": CUT}, 1), ({"A.log": field(UID_A, asks=2)}, 2)),
     "a table of places, of which none is here": (
         (COMPLETE, 0), ({"places.csv": b"place,log\nA,A\nB,B\nC,C\n"}, 1), "Back")}
 NO_OLDER = {
@@ -1507,6 +1530,17 @@ def test_what_is_missing_may_be_in_any_field_of_its_place(page):
     assert page.texts("h1")[0].startswith("1 item missing if the reader of A heard to the end")
 
 
+def test_what_a_list_has_may_be_there(page):
+    drop(page, {"books.csv": MORE, **OLD_B, "A.log": field(UID_A, listed=[UID_A, UID_C])})
+    page.until("h1", "1 item may be missing (Kim, of A); the list in A has what its log rules out.")
+
+
+def test_what_is_missing_may_be_in_a_log_that_is_named(page):
+    drop(page, {"books.csv": MORE, **OLD_B, "r1.log": field(UID_A),
+                "p.csv": b"place,log\nA,r1.log\nA,r2.log\nB,B\n"})
+    page.until("h1", "1 item may be missing (Kim, of A); no log r2.log of A, as p.csv names.")
+
+
 def test_what_is_missing_may_be_in_a_newer_log_that_counted_for_another_place(page):
     table = {"p.csv": b"place,log\nB,scan.log\n"}
     drop(page, {"books.csv": MORE, **table, "scan.log": field(UID_A, UID_C)},
@@ -1523,6 +1557,13 @@ THIRD = ["reader|UID", '"serial, uid"', "reader; uid", "uid\u00A0"]
 @pytest.mark.parametrize("head", THIRD)
 def test_a_table_of_places_is_one_by_its_own_separator(page, head):
     table = f"place,log,{head}\nA,r1.log,x\nA,r2.log,y\nB,B.log,z\n".encode()
+    drop(page, {"places.csv": table, **OLD_B, "books.csv": MORE, "r1.log": field(UID_A, UID_C)})
+    page.until("h1", "No log r2.log of A, as places.csv names.")
+
+
+def test_a_quoted_heading_is_one(page):
+    """Whatever separators are in it."""
+    table = b'note;"a,uid,b";place;log\n;;A;r1.log\n;;A;r2.log\n;;B;B.log\n'
     drop(page, {"places.csv": table, **OLD_B, "books.csv": MORE, "r1.log": field(UID_A, UID_C)})
     page.until("h1", "No log r2.log of A, as places.csv names.")
 

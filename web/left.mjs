@@ -5,6 +5,7 @@ import { SENTENCES } from "./say/sentences.mjs";
 
 /** @typedef {import("./opened.mjs").Entry} Entry */
 /** @typedef {import("./judge/objects.mjs").CollectionObject} CollectionObject */
+/** @typedef {import("./judge/objects.mjs").OneLog} OneLog */
 /** @typedef {{changed?: number, newer?: number, than?: string, beside?: number}} Age when a file was changed, and the newest one beside which it may
  *   not count; and the sum of what these are known by */
 
@@ -12,10 +13,12 @@ import { SENTENCES } from "./say/sentences.mjs";
 export const UNFINISHED = /\.(crdownload|opdownload|download|part|partial|filepart|tmp)$/i, NO_LOG = "a log begins with 'vicinity-log'";
 /** How a log or surveys begin, in whatever coding; how surveys end that weren't cut off, and within how many bytes. */
 const MARK = /v\0?i\0?c\0?i\0?n\0?i\0?t\0?y\0?-/, END = /\nend \d+ \w{4}\r?\n$/, MOST_END = 40;
-/** The names by which a log by itself is compared, and the rows of a catalogue; as what each log was judged last, with the places of what was heard
- *  in it; a row with a UID, and how many of its cells say which. */
-const NAMES = /** @type {WeakMap<Entry, string[]>} */ (new WeakMap()), ROWS = /** @type {WeakMap<Entry, [string, string][]>} */ (new WeakMap()),
-  JUDGED = /** @type {Map<string, {log: import("./judge/objects.mjs").OneLog, homes: Set<string | null>}>} */ (new Map()), A_ROW = /^(.*?)\b(E0[0-9A-F]{14})\b(.*)$/gim, MOST_OF_ROW = 2;
+/** The names by which a log by itself is compared, the rows of a catalogue, and the tags in logs; what each log was judged last, with all places of
+ *  which it was; a row with a UID, how many of its cells say which, what isn't read between digits; a tag in a log, and in surveys. */
+const NAMES = /** @type {WeakMap<Entry, string[]>} */ (new WeakMap()), ROWS = /** @type {WeakMap<Entry, [string, string][]>} */ (new WeakMap());
+const TAGS = /** @type {WeakMap<Entry, Map<string, string[]>>} */ (new WeakMap()), JUDGED = /** @type {Map<string, {log: OneLog, places: Set<string>}>} */ (new Map());
+const A_ROW = /^(|.*?[^0-9A-F\r\n])(E[ \t:-]*0(?:[ \t:-]*[0-9A-F]){14})(?![0-9A-F])(.*)$/gim, MOST_OF_ROW = 2, FILLERS = /[ \t:-]/g;
+const HEARD_IN = /^[RH] \w{4}(\w{16})/gm, PROVED_IN = /^certain (\w{16})/gm;
 
 /** @param {Entry} entry */
 export const isATable = (entry) => kindOf(entry) === "table";
@@ -49,11 +52,24 @@ const firstName = (name) => uncopied(bareOf(name));
 /** @typedef {{into: Age & {place?: string | null, name?: string}, file: Entry, name: string}} Opened an open file, or a log in a text of surveys, by its own name */
 
 /**
- * What a file is called, or the logs in it; where these aren't all known, both.
+ * Whether a text of surveys has its end, without which it isn't known whose it has.
  * @param {Entry} file
  */
-const namesIn = (file, name = file.was ?? file.name, names = surveyedIn(file)) =>
-  names.length && END.test(new TextDecoder().decode(file.text.subarray(-MOST_END))) ? names : [...names, name];
+const isWhole = (file) => kindOf(file) === "surveys" && END.test(new TextDecoder().decode(file.text.subarray(-MOST_END)));
+
+/**
+ * What a file is called, or the logs in it.
+ * @param {Entry} file
+ */
+const namesIn = (file, name = file.was ?? file.name) => isWhole(file) ? surveyedIn(file) : [name];
+
+/**
+ * The UIDs that were heard in a log, or proved in each of those in a text of surveys.
+ * @param {Entry} file
+ */
+const tagsIn = (file) => madeOnce(TAGS, file, () => new Map(new TextDecoder().decode(file.text).split(/^(?=vicinity-survey )/m).map((text) => [
+  /^vicinity-survey \d+ (.*)/.exec(text)?.[1] ?? file.was ?? file.name, [...Array.from(text.matchAll(PROVED_IN), ([, uid]) => uid),
+    ...Array.from(text.matchAll(HEARD_IN), ([, uid]) => (uid.match(/../g) ?? []).reverse().join("").toUpperCase())]])));
 
 /**
  * Whether two files have the same bytes.
@@ -93,13 +109,11 @@ export const isNeither = (it) => kindOf(it) === "other" && !isBroken(it) && !MAR
  * @param {Entry[]} away
  */
 export function putAges(object, { tables, logs }, away) {
-  const byName = new Map(logs.flatMap((file) => namesIn(file, file.name).map((name) => [name, file]))), homes = object.logs.map(() => /** @type {Set<string | null>} */ (new Set()));
-  for (const { certain_in: its, place } of object.items) if (place !== null) for (const at of its) homes[at].add(place);
-  const ofLogs = object.logs.flatMap((into, at) => {
-    const file = byName.get(into.name), name = file?.was ?? into.name;
-    return file && JUDGED.set(`${file.id} ${name}`, { log: Object.assign(into, { was: file.was }), homes: homes[at] }) ? { into, file, name } : [];
+  const byName = new Map(logs.flatMap((file) => namesIn(file, file.name).map((name) => [name, file]))), ofLogs = object.logs.flatMap((into) => {
+    const file = byName.get(into.name), name = file?.was ?? into.name, key = `${file?.id} ${name}`, places = JUDGED.get(key)?.places ?? [];
+    return file && JUDGED.set(key, { log: Object.assign(into, { was: file.was }), places: new Set([...places, ...into.place === null ? [] : [into.place]]) }) ? { into, file, name } : [];
   });
-  put([...tables.map((file, at) => ({ into: object.files[at], file, name: file.name })), ...ofLogs], away, new Set(object.items.map(({ state, place }) => state === "not counted" ? place : null)));
+  put([...tables.map((file, at) => ({ into: object.files[at], file, name: file.name })), ...ofLogs], away, away.length ? object.items : []);
   object.lost = lostIn(object, away.filter(isCatalogue));
 }
 
@@ -111,7 +125,7 @@ export function putAges(object, { tables, logs }, away) {
  */
 function lostIn({ items, unexpected }, before) {
   const known = new Set((before.length ? [...items, ...unexpected] : []).map(({ uid }) => uid));
-  const files = before.map((file) => ({ file, its: madeOnce(ROWS, file, () => rowsIn(file)).filter(([uid]) => !known.has(uid)) })).filter(({ its }) => its.length), rows = new Map(files.flatMap(({ its }) => its));
+  const files = before.map((file) => ({ file, its: rowsIn(file).filter(([uid]) => !known.has(uid)) })).filter(({ its }) => its.length), rows = new Map(files.flatMap(({ its }) => its));
   return { rows: [...rows.values()], key: `${files.map(({ file }) => file.id)}: ${[...rows.keys()]}` };
 }
 
@@ -120,8 +134,10 @@ function lostIn({ items, unexpected }, before) {
  * @param {Entry} file
  * @returns {[string, string][]}
  */
-const rowsIn = (file) => Array.from(new TextDecoder().decode(utf8Of(file.text)).matchAll(A_ROW), ([, before, uid, behind]) => [uid.toUpperCase(),
-  `${before}${behind}`.replace(/"/g, "").split(/[,;\t]/).map((it) => it.trim()).filter((it) => it).slice(0, MOST_OF_ROW).join(" \u00B7 ") || uid]);
+const rowsIn = (file) => madeOnce(ROWS, file, () => Array.from(new TextDecoder().decode(utf8Of(file.text)).matchAll(A_ROW), ([, before, spelled, behind]) => {
+  const uid = spelled.replace(FILLERS, "").toUpperCase(), cells = `${before}${behind}`.replace(/"/g, "").split(/[,;\t]/).map((it) => it.trim()).filter((it) => it);
+  return [uid, cells.slice(0, MOST_OF_ROW).join(" \u00B7 ") || uid];
+}));
 
 /**
  * The same of a log by itself: only of its name.
@@ -137,10 +153,11 @@ export function putAge(into, file, away, one = { into, file, name: file.was ?? f
  * Each file that isn't here any more is asked about beside open ones that are older.
  * @param {Opened[]} open
  * @param {Entry[]} away
- * @param {Set<string | null>} [without] places that have no log, of which it is said that items aren't counted for that
+ * @param {import("./judge/objects.mjs").Item[]} [items]
  */
-function put(open, away, without = new Set()) {
-  const here = { open, without, named: grouped(open, ({ name }) => firstName(name)), tables: open.filter(({ file }) => isATable(file)) };
+function put(open, away, items = []) {
+  const without = new Set(items.map(({ state, place }) => state === "not counted" ? place : null)), homes = new Map(items.flatMap(({ uid, place }) => place === null ? [] : [[uid, place]]));
+  const here = { open, without, homes, named: grouped(open, ({ name }) => firstName(name)), tables: open.filter(({ file }) => isATable(file)) };
   for (const { into, file: { changed } } of open) Object.assign(into, { changed, newer: undefined, than: undefined, beside: undefined });
   for (const gone of away) {
     const { changed: newer = 0, name: than, id } = gone, older = open.filter(({ file }) => (file.changed ?? Infinity) < newer), beside = new Set(older.length ? besideOf(gone, older, here) : []);
@@ -149,33 +166,28 @@ function put(open, away, without = new Set()) {
 }
 
 /**
- * Beside which older ones. What has no mark of a log, and no column of a catalogue, was one only by its name; what couldn't be read may have been
- * either, and is compared with what has its name. A table is compared with that of its kind. A log is, with those of its place, if one of these
- * has its name, or that of a copy; one of no place that is called like a copy with those of the place of that name, if a tag was heard in it
- * that belongs there; but none in which all that was heard belongs elsewhere. Where there is none, what is gone is compared with all: but a log
- * not while its place has no log, and none of its name is here, nor where its tags are here by another name of the file.
+ * Beside which older ones. A table is compared with that of its kind. What has no mark of a log was one only by its name. A log is compared with
+ * those of its place, if one of these has its name, or that of a copy, and unless it was of several, or all that was heard in it belongs
+ * elsewhere; one of no place that is called like a copy, with those of the place of that name, if a tag was heard in it that belongs there. What
+ * couldn't be read is compared with what has the file's name. Where there is none, what is gone is compared with all: but a log not while its
+ * place has no log, and none of its name is here, nor where its tags are here by another name of the file.
  * @param {Entry} gone
  * @param {Opened[]} older
- * @param {{open: Opened[], without: Set<string | null>, named: Map<string, Opened[]>, tables: Opened[]}} here
+ * @param {{open: Opened[], without: Set<string | null>, homes: Map<string | null, string>, named: Map<string, Opened[]>, tables: Opened[]}} here
  */
-function besideOf(gone, older, { open, without, named, tables }) {
-  const orAll = (/** @type {Opened[]} */ its, all = older) => its.length ? its : all;
+function besideOf(gone, older, { open, without, homes, named, tables }) {
+  const orAll = (/** @type {Opened[]} */ its, all = older) => its.length ? its : all, isUnread = !gone.text.length || kindOf(gone) === "other" || kindOf(gone) === "surveys" && !isWhole(gone);
+  if (isATable(gone) && (!strangeness(gone) || rowsIn(gone).length)) return orAll(tables.filter(({ file }) => isPlaces(file) === isPlaces(gone)));
   if (strangeness(gone) && !MARK.test(startOf(gone))) return older.filter(({ name }) => rootOf(name) === rootOf(gone.name));
-  if (!gone.text.length) return orAll(open.filter(({ name, into }) => name === gone.name.replace(UNFINISHED, "") && isByName(name, into)));
-  if (isATable(gone)) return orAll(tables.filter(({ file }) => isPlaces(file) === isPlaces(gone)));
   return namesIn(gone).flatMap((name) => {
-    const { log: { name: as = name, place = undefined, certain = 0 } = {}, homes = new Set() } = JUDGED.get(`${gone.id} ${name}`) ?? {}, own = firstName(name);
-    const [of, called] = place === null && homes.has(own) ? [own, own] : [place, bareOf(as)], alike = (named.get(own) ?? []).filter((it) => !tables.includes(it));
-    const its = of && homes.size && !homes.has(of) ? [] : alike.filter((it) => (of === null || bareOf(it.into.name ?? it.name) === called) &&
-      (of === undefined ? isByName(it.name, it.into) : it.into.place === of));
+    const { log: { name: as = name, place = undefined, certain = 0 } = {}, places = new Set() } = JUDGED.get(`${gone.id} ${name}`) ?? {}, own = firstName(name);
+    const of = new Set((tagsIn(gone).get(name) ?? []).flatMap((uid) => homes.get(uid) ?? [])), isCopy = place === null && of.has(own), [at, called] = isCopy ? [own, own] : [place, bareOf(as)];
+    // of no place that a log is of by its own name, if it was never judged
+    const isAt = (/** @type {Opened} */ { name, into: { place = null } }) => at === undefined ? place === null || place === bareOf(name) : place === at;
+    const alike = (named.get(own) ?? []).filter((it) => !tables.includes(it)), its = isUnread ? open.filter(({ file }) => (file.was ?? file.name) === gone.name.replace(UNFINISHED, ""))
+      : places.size > 1 ? [] : alike.filter((it) => at === null || bareOf(it.into.name ?? it.name) === called);
+    const fitting = its.filter((it) => isAt(it) && (!of.size || !it.into.place || of.has(it.into.place)));
     const isAside = place && without.has(place) && !alike.length || certain && open.some(({ file }) => isSame(file, gone));
-    return orAll(of && its.length ? open.filter(({ into }) => into.place === of) : its, isAside ? [] : older.filter((it) => !tables.includes(it)));
+    return orAll(at && fitting.length ? open.filter(({ into }) => into.place === at) : fitting, isAside ? [] : isUnread ? older : older.filter((it) => !tables.includes(it)));
   });
 }
-
-/**
- * Whether a file is of its place, if it is of one, by its own name.
- * @param {string} name
- * @param {Opened["into"]} into
- */
-const isByName = (name, { place = null }) => place === null || place === bareOf(name);

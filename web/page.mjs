@@ -144,8 +144,7 @@ close.addEventListener("click", () => { keep(); now.seen = []; take([]); });
  * @param {Entry} log
  * @returns {Promise<import("./judge/told.mjs").Told | undefined>}
  */
-const whole = (log) => work.ask({ name: log.name, text: log.text, changed: log.changed, isKept: true })
-  .then(({ told, error }) => error === STOPPED ? whole(log) : told);
+const whole = (log) => work.ask({ name: log.name, text: log.text, changed: log.changed, isKept: true }).then(({ told, error }) => error === STOPPED ? whole(log) : told);
 
 /**
  * What is told of a log of a collection, by its number: it is judged when it is asked for.

@@ -45,8 +45,7 @@ export function shelved(title, list, shelves, shelf, where = {}, toDo) {
     return el("tbody", {}, ...rows.length && isMany ? [titled(name, "rowgroup")] : [], ...rows);
   });
   // what is at the head stands on each sheet of paper again, and in a long table of several shelves each row names its own
-  const head = el("thead", {}, el("tr", {}, heads.map((it) => el("th", { scope: "col" }, printable(it))),
-    isLong ? [el("th", { scope: "col", class: "paper" }, SHELF)] : []),
+  const head = el("thead", {}, el("tr", {}, heads.map((it) => el("th", { scope: "col" }, printable(it))), isLong ? [el("th", { scope: "col", class: "paper" }, SHELF)] : []),
     ...groups.size === 1 && !isOne ? [titled([...groups.keys()][0], "colgroup")] : []);
   const table = el("table", { class: heads.length > MOST_COLUMNS ? "items many" : "items" }, el("caption", {}, title), head, ...bodies);
   return list.length ? [table, ...rest(list.length - MOST_ROWS)] : [];

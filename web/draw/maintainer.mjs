@@ -65,6 +65,5 @@ const toSend = (lines, words) => lines.length ? [el("p", {}, words), ...copied(l
 function copied(lines) {
   const isLong = lines.length > MOST_ON_PAPER, number = count(lines.length, "line");
   const attributes = { class: isLong ? "copy long" : "copy", tabindex: "0", role: "group", "aria-label": `Requests, ${number}` };
-  return lines.length ? [el("pre", attributes, lines.join("\n")),
-    ...isLong ? [el("p", { class: "cut" }, `On paper only the first of these ${number} are seen.`)] : []] : [];
+  return lines.length ? [el("pre", attributes, lines.join("\n")),...isLong ? [el("p", { class: "cut" }, `On paper only the first of these ${number} are seen.`)] : []] : [];
 }

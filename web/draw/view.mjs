@@ -54,8 +54,7 @@ export function doubted(title, doubts, canLeave = () => false) {
     const pressed = buttons.filter(([, data]) => "data-both" in data ? canLeave() : logs.every(canLeave)).map((it) => button(...it));
     return el("li", {}, el("b", {}, words), ` ${cure}`, ...pressed.length ? [el("p", { class: "take" }, pressed)] : []);
   });
-  return items.length ? [el("section", { class: "doubts" }, el("h2", {}, title), el("ul", { class: "steps" }, items),
-    ...rest(doubts.length - MOST_LISTED))] : [];
+  return items.length ? [el("section", { class: "doubts" }, el("h2", {}, title), el("ul", { class: "steps" }, items),...rest(doubts.length - MOST_LISTED))] : [];
 }
 
 /**

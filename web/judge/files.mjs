@@ -74,8 +74,10 @@ export const isPlaces = (file) => ["place", "log"].every((head) => headsOf(file)
  * @param {string} line
  * @param {string} separator
  */
-const cellsOf = (line, separator) => Array.from(line.matchAll(new RegExp(`("(?:[^"]|"")*"|[^${separator}]*)(?:${separator}|$)`, "g")),
-  ([, cell]) => (cell[0] === '"' ? cell.slice(1, -1).replace(/""/g, '"') : cell).replace(/^[ \t]+|[ \t]+$/g, ""));
+function cellsOf(line, separator) {
+  const found = Array.from(line.matchAll(new RegExp(`("(?:[^"]|"")*"|[^${separator}"]*)(?:${separator}|$)`, "g")));
+  return found.map(([all]) => all).join("") !== line ? [] : found.map(([, cell]) => (cell[0] === '"' ? cell.slice(1, -1).replace(/""/g, '"') : cell).replace(/^[ \t]+|[ \t]+$/g, ""));
+}
 
 /**
  * The columns of a table, folded: under the first of comma, semicolon and tab that gives those that a table has, as the library has it; where

@@ -92,8 +92,7 @@ function unmet({ count: number, first, last, heard }, unread, sent) {
  */
 function hidden(first, last, sent) {
   const one = short(first.uid ?? 0n, [last.uid ?? 0n]), other = short(last.uid ?? 0n, [first.uid ?? 0n]), isOver = first.reading === "captured";
-  const both = `tags ${one} (line ${first.line}) and ${other} (line ${last.line}) were each read alone, but both should have answered in one of ` +
-    "these two slots.";
+  const both = `tags ${one} (line ${first.line}) and ${other} (line ${last.line}) were each read alone, but both should have answered in one of these two slots.`;
   const over = isOver ? `${one} answered in line ${first.line}, but not in line ${last.line}, where ${other} was read alone`
     : `${other} answered in line ${last.line}, but not in line ${first.line}, where ${one} was read alone`;
   return { sentence: isOver || last.reading === "captured" ? `tag ${over}, and it was asked there too.` : both,

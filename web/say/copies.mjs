@@ -87,7 +87,7 @@ export function ofAPlace({ logs, items, unexpected, files, without_log }) {
     const [place] = isCopy ? [called] : homes[at].size === 1 ? places.filter((it) => homes[at].has(it)) : [];
     return left_over && place ? [{ name, place, isCopy }] : [];
   });
-  const sure = [...grouped(found, ({ place }) => place).values()].flatMap((its) => its.length > 1 ? [] : its), of = count(sure.length, "place");
+  const sure = [...grouped(found.filter((it) => !it.isCopy), ({ place }) => place).values()].flatMap((its) => its.length > 1 ? [] : its), of = count(sure.length, "place");
   if (found.length > MOST_LEFT) return sure.length < 2 ? [] : [{ short: `no log of ${of}, unless ${sure.length} of other names are theirs`,
     isFirst: true, mayNotCount: true, logs: sure.map(({ name }) => name), places: sure.map(({ place }) => place), cure: IF_THEIRS,
     words: `No log of ${of}: but all that was heard in each of as many logs belongs to one of these, as in ` +
@@ -177,7 +177,7 @@ export function withoutRow({ lost: { rows, key } = { rows: [], key: "" } }) {
 export function ofOtherDays(logs, both = []) {
   const newest = Math.max(0, ...logs.map(({ changed = 0 }) => changed)), isAsked = (/** @type {Aged} */ it) => it.newer && !both.includes(olderOne(it));
   const late = logs.filter((it) => (it.changed ?? newest) < newest - HALF_A_DAY && !isAsked(it)), names = late.map(({ name, of = name }) => of);
-  const key = `${late.map(olderOne)} within ${Math.floor(newest / HALF_A_DAY)}`, isOne = late.length === 1, [log, is, they] = isOne ? ["log", "is", "It is"] : ["logs", "are", "They are"];
+  const key = `${late.map((it) => `${olderOne(it)} within ${Math.floor((newest - (it.changed ?? 0)) / HALF_A_DAY)}`)}`, isOne = late.length === 1, [log, is, they] = isOne ? ["log", "is", "It is"] : ["logs", "are", "They are"];
   const other = `${isOne ? "its file" : `the file of ${names[0]}`} is of ${dated(late[0]?.changed)}, the newest of ${dated(newest)}`;
   return !late.length ? [] : [{ short: `the ${log} of ${firstOf(names)} ${is} more than 12 hours older`, mayNotCount: true, late: late.flatMap(({ at = [] }) => at),
     words: `The ${log} of ${firstOf(names, "and", MOST_LISTED)} ${is} older than the others: ${other}.`,

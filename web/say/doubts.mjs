@@ -47,7 +47,7 @@ function notHere({ logs, files }) {
   const table = placesIn(files), unread = unreadOf(table?.text ?? "", logs), name = printable(table?.file ?? ""), isOne = unread.length === 1;
   const those = (/** @type {string} */ of) => unread.map(({ place, log }) => printable(`${log} ${of} ${place}`)), lacking = new Set(unread.map(({ place }) => place));
   const key = [table?.sha256, table?.changed, those("of"), logs.filter(({ place }) => lacking.has(place ?? "")).map(olderOne)].join(), [they, them, is] = isOne ? ["It isn't", "its row", "isn't"] : ["They aren't", "their rows", "aren't"];
-  return !unread.length ? [] : [{ isFirst: true, mayNotCount: true, short: `no log ${firstOf(those("of"))}, as ${name} names`,
+  return !unread.length ? [] : [{ isFirst: true, mayNotCount: true, late: logs.flatMap((log, at) => lacking.has(log.place ?? "") ? at : []), short: `no log ${firstOf(those("of"))}, as ${name} names`,
     words: `${name} names ${firstOf(those("for"), "and", MOST_LISTED)}, which ${is} here: what may be there isn't counted.`,
     cure: `Open ${isOne ? "it" : "them"} too, or delete ${them} in ${name}.`, buttons: [[`${they} of this count`, { "data-both": key }]] }];
 }
@@ -78,7 +78,7 @@ function ofPlaces({ without_log, items, logs, files }, asked, known) {
   const isOf = near ? `If ${names[0]} is of ${printable(near)}, call it ${printable(near)}.log; if that is here too, write a table of places, with a row for each. ` : "";
   const isNew = late.length ? `${last}, of ${dated(late[0].changed)}, is newer than the others: if it is a new count, call it as its place. ` : "";
   const [cure, more] = isNone ? [NO_PLACE, {}] : table ? [`${named} ${NONE_NAMED}`, { logs: [table.file], buttons: [[`Leave out ${named}`, { "data-out": String(files.indexOf(table)) }]] }] : [how + isOf + isNew + OTHERS, leaving(lost)];
-  const noPlace = { short: `${firstOf(names)} ${lost.length === 1 ? "is" : "are"} of no place`, isFirst: true, cure, ...more,
+  const noPlace = { short: `${firstOf(names)} ${lost.length === 1 ? "is" : "are"} of no place`, isFirst: true, mayNotCount: true, cure, ...more,
     words: `${count(lost.length, "log")} of no place: ${firstOf(names, "and", MOST_LISTED)}.` };
   return [...places.length && logs.length ? [noLog] : [], ...lost.length ? [noPlace] : []];
 }
@@ -101,7 +101,7 @@ function ruledOut({ logs, items }, shelves) {
   const titles = new Map(denied.flat().length ? items.map((item) => [item.uid, shelves.said(item, 1)]) : []);
   return denied.flatMap((uids, at) => {
     const name = shelves.name(at), which = uids.map((uid) => printable(titles.get(uid) || uid));
-    return uids.length ? [{ short: `the list in ${name} has what its log rules out`, cure: DENIED, words: `The reader's own list in ${name} has ` +
+    return uids.length ? [{ short: `the list in ${name} has what its log rules out`, cure: DENIED, late: [at], words: `The reader's own list in ${name} has ` +
       `${count(uids.length, "tag")} that its log rules out: ${firstOf(which, "and", MOST_LISTED)}.` }] : [];
   });
 }

@@ -135,8 +135,7 @@ function lights(object) {
   const done = logs.length - open.length - hiding.length, heard = items.filter(({ certain_in: its }) => its.length).length;
   const more = (/** @type {number} */ number, /** @type {string} */ words) => number ? `, ${number.toLocaleString("en")} ${words}` : "";
   const differs = counts.missing || counts.misplaced || counts.unexpected || counts.returned;
-  const of = (/** @type {number} */ number, /** @type {{length: number}} */ all, /** @type {string} */ one) =>
-    `${number.toLocaleString("en")} of ${count(all.length, one)}`;
+  const of = (/** @type {number} */ number, /** @type {{length: number}} */ all, /** @type {string} */ one) => `${number.toLocaleString("en")} of ${count(all.length, one)}`;
   const value = of(isUnsettled ? heard : here, items, "item") + more(counts.away, "away") + more(counts["no tag"], "without a tag") +
     more(isPlaced ? counts.there : 0, "without a place");
   return /** @type {Light[]} */ ([{ name: "Counted to the end", value: of(done, logs, "log") + lost, look: done === logs.length && !lost ? "yes" : "no" },

@@ -13,8 +13,7 @@ export const HOLDS = SENTENCES.answers.holds;
 /** How it is said whether an answer about tags would also be that of a log whose replies may have hidden others. */
 const IF_HIDDEN = "If a strong reply hid a weaker one, the answer ", IF_DEAF = "If the reader had gone deaf after the last answer of a tag, the answer ";
 /** @param {string} [where] */
-export const deafIn = (where = "") => `${IF_DEAF}may be wrong${where}. To know, switch the field off and on, and let the reader ask once more ` +
-  "for a tag that was found.";
+export const deafIn = (where = "") => `${IF_DEAF}may be wrong${where}. To know, switch the field off and on, and let the reader ask once more ` + "for a tag that was found.";
 export const DEAF = "A reader that is deaf writes the same log: only a tag at its antenna shows that it hears.";
 export const TO_KNOW = "silence each tag that was heard, and ask all in one slot, until none answers";
 
@@ -22,8 +21,7 @@ export const TO_KNOW = "silence each tag that was heard, and ask all in one slot
  * What no program can check. If one of these fails, an answer may be wrong.
  * @param {boolean} holds whether all of it holds also if strong replies hid weaker ones, so that this isn't taken for granted
  */
-export const granted = (holds) => [
-  "Each tag has power, hears the reader, and is heard: none is covered, on metal, or at the edge. A tag that never answers is in no log.",
+export const granted = (holds) => ["Each tag has power, hears the reader, and is heard: none is covered, on metal, or at the edge. A tag that never answers is in no log.",
   "The log is true: it says what was sent and what each logged slot held, in the order in which it happened.",
   "Nothing else was sent that changes which tags answer: no Select, no Reset to Ready, no quiet command of a manufacturer.",
   `${holds ? "E" : "No strong reply hid a weaker one, and e"}very reply came from a tag.`,
