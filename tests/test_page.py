@@ -3,6 +3,7 @@ the program says; it reaches no network, and writes nothing on the console."""
 import json
 import random
 import re
+import shutil
 import subprocess
 import time
 from hashlib import sha256
@@ -12,7 +13,7 @@ from selenium.webdriver.common.keys import Keys
 
 import biglog
 from helpers.lines import log_lines, log_of, rows, text_of
-from helpers.program import TOP
+from helpers.program import TOP, Program
 from helpers.records import drawn_in
 from helpers.screen import DROP, PHONE, Screen
 
@@ -98,6 +99,16 @@ def file(wasm_module, tmp_path_factory):
     made = tmp_path_factory.mktemp("page") / "vicinity.html"
     subprocess.run([TOP / "web/build", made, wasm_module], check=True)
     return made
+
+
+def test_no_name_is_declared_in_two_modules(wasm_module, tmp_path):
+    """Joined they would be no script. A declaration may go over several lines."""
+    for folder in "web", "examples":
+        shutil.copytree(TOP / folder, tmp_path / folder)
+    with open(tmp_path / "web/left.mjs", "a", encoding="utf-8") as module:
+        module.write("const ONLY_HERE = 1,\n  PASTE = 2;\n")
+    said = Program(tmp_path / "web/build", tmp_path / "page.html", wasm_module).run()
+    assert (said.err, said.status) == (b"PASTE is declared in left.mjs and in page.mjs\n", 1)
 
 
 @pytest.fixture
