@@ -1767,6 +1767,17 @@ def test_a_later_count_by_the_name_of_a_copy_is_not_forgotten(page):
     assert re.search(r"A.log is of 18 Nov .*, A \(1\).log was of 18 Nov ", words)
 
 
+def test_a_copy_is_of_its_place_by_all_that_was_heard_in_it(page):
+    """If it is left out, what is older of that place is asked about; otherwise all is."""
+    for uids, those in ([UID_A], "log of A is"), ([UID_A, UID_B], "logs of A and B are"), (
+            [], "logs of A and B are"):
+        drop(page, COMPLETE, {name: NOON for name in COMPLETE})
+        drop(page, {"A (1).log": field(*uids, asks=2)}, {"A (1).log": NOON + HOUR})
+        pressed(page, "Only A.log")
+        page.until("h1", f"but the {those} older than ")
+        page.press("#close")
+
+
 def test_a_number_behind_a_dot_is_no_ending(page):
     """Two such logs are of two places, or one of them is the older one, which is asked."""
     logs = {"R.1": field(UID_A), "R.2": field(UID_B)}

@@ -168,7 +168,7 @@ function put(open, away, items = []) {
 /**
  * Beside which older ones. A table is compared with that of its kind. What has no mark of a log was one only by its name. A log is compared with
  * those of its place, if one of these has its name, or that of a copy, and unless it was of several, or all that was heard in it belongs
- * elsewhere; one of no place that is called like a copy, with those of the place of that name, if a tag was heard in it that belongs there. What
+ * elsewhere; one of no place that is called like a copy, with those of the place of that name, if all that was heard in it belongs there. What
  * couldn't be read is compared with what has the file's name. Where there is none, what is gone is compared with all: but a log not while its
  * place has no log, and none of its name is here, nor where its tags are here by another name of the file.
  * @param {Entry} gone
@@ -181,7 +181,7 @@ function besideOf(gone, older, { open, without, homes, named, tables }) {
   if (strangeness(gone) && !MARK.test(startOf(gone))) return older.filter(({ name }) => rootOf(name) === rootOf(gone.name));
   return namesIn(gone).flatMap((name) => {
     const { log: { name: as = name, place = undefined, certain = 0 } = {}, places = new Set() } = JUDGED.get(`${gone.id} ${name}`) ?? {}, own = firstName(name);
-    const of = new Set((tagsIn(gone).get(name) ?? []).flatMap((uid) => homes.get(uid) ?? [])), isCopy = place === null && of.has(own), [at, called] = isCopy ? [own, own] : [place, bareOf(as)];
+    const of = new Set((tagsIn(gone).get(name) ?? []).flatMap((uid) => homes.get(uid) ?? [])), isCopy = place === null && of.size === 1 && of.has(own), [at, called] = isCopy ? [own, own] : [place, bareOf(as)];
     // of no place that a log is of by its own name, if it was never judged
     const isAt = (/** @type {Opened} */ { name, into: { place = null } }) => at === undefined ? place === null || place === bareOf(name) : place === at;
     const alike = (named.get(own) ?? []).filter((it) => !tables.includes(it)), its = isUnread ? open.filter(({ file }) => (file.was ?? file.name) === gone.name.replace(UNFINISHED, ""))
