@@ -181,13 +181,13 @@ function besideOf(gone, older, { open, without, homes, named, tables }) {
   if (strangeness(gone) && !MARK.test(startOf(gone))) return older.filter(({ name }) => rootOf(name) === rootOf(gone.name));
   return namesIn(gone).flatMap((name) => {
     const { log: { name: as = name, place = undefined, certain = 0 } = {}, places = new Set() } = JUDGED.get(`${gone.id} ${name}`) ?? {}, own = firstName(name);
-    const of = new Set((tagsIn(gone).get(name) ?? []).flatMap((uid) => homes.get(uid) ?? [])), isCopy = place === null && of.size === 1 && of.has(own), [at, called] = isCopy ? [own, own] : [place, bareOf(as)];
+    const belongs = new Set((tagsIn(gone).get(name) ?? []).flatMap((uid) => homes.get(uid) ?? [])), isCopy = place === null && belongs.size === 1 && belongs.has(own), [where, called] = isCopy ? [own, own] : [place, bareOf(as)];
     // of no place that a log is of by its own name, if it was never judged
-    const isAt = (/** @type {Opened} */ { name, into: { place = null } }) => at === undefined ? place === null || place === bareOf(name) : place === at;
+    const isAt = (/** @type {Opened} */ { name, into: { place = null } }) => where === undefined ? place === null || place === bareOf(name) : place === where;
     const alike = (named.get(own) ?? []).filter((it) => !tables.includes(it)), its = isUnread ? open.filter(({ file }) => (file.was ?? file.name) === gone.name.replace(UNFINISHED, ""))
-      : places.size > 1 ? [] : alike.filter((it) => at === null || bareOf(it.into.name ?? it.name) === called);
-    const fitting = its.filter((it) => isAt(it) && (!of.size || !it.into.place || of.has(it.into.place)));
+      : places.size > 1 ? [] : alike.filter((it) => where === null || bareOf(it.into.name ?? it.name) === called);
+    const fitting = its.filter((it) => isAt(it) && (!belongs.size || !it.into.place || belongs.has(it.into.place)));
     const isAside = place && without.has(place) && !alike.length || certain && open.some(({ file }) => isSame(file, gone));
-    return orAll(at && fitting.length ? open.filter(({ into }) => into.place === at) : fitting, isAside ? [] : isUnread ? older : older.filter((it) => !tables.includes(it)));
+    return orAll(where && fitting.length ? open.filter(({ into }) => into.place === where) : fitting, isAside ? [] : isUnread ? older : older.filter((it) => !tables.includes(it)));
   });
 }
