@@ -1276,6 +1276,27 @@ def test_a_row_is_known_however_its_uid_is_written(page, spelled):
     page.until("h1", "but 1 tag of the catalogue before has no row now: Kim \u00B7 A.")
 
 
+# Catalogues with a row of which the next has none, in which more than one UID or none is read.
+ROWS_OF_C = {
+    "a note of another tag": b"note,uid,title,place\n,E0040100000000A1,Emma,A\n,E0040100000000B2,"
+                             b"Walden,B\nwith E0:04:01:00:00:00:00:A1,E0040100000000C3,Kim,A\n",
+    "a tab before it": b"note\tuid\ttitle\nE0\tE0:04:01:00:00:00:00:C3\tKim\n",
+    "refused": b"with,uid,place\nE0040100000000A1,E0040100000000C3,A\n",
+    "broken UTF-16": b"\xff\xfe" + (BOTH + b"E0040100000000C3,Kim,A\n").decode().encode(
+        "utf-16-le") + b"0",
+    "UTF-16 without a mark": (BOTH + b"E0040100000000C3,Kim,A\n").decode().encode("utf-16-le")}
+
+
+@pytest.mark.parametrize("how", ROWS_OF_C)
+def test_a_row_is_known_by_its_own_cell(page, how):
+    drop(page, {**COMPLETE, "books.csv": ROWS_OF_C[how]}, {name: NOON for name in COMPLETE})
+    assert look(page) != "yes"
+    drop(page, {"books.csv": BOTH}, {"books.csv": NOON + HOUR})
+    page.until("h1", "but 1 tag of the catalogue before has no row now: ")
+    drop(page, {"books.csv": BOTH + b"E0040100000000C3,Kim,A\n"}, {"books.csv": NOON + 2 * HOUR})
+    assert page.texts("h1") == ["1 item missing (Kim, of A)."]
+
+
 def test_a_row_that_was_here_again_is_asked_about_again(page):
     drop(page, COMPLETE, {name: NOON for name in COMPLETE})
     for hours, table in enumerate([ALL_OF_A, BOTH, ALL_OF_A, BOTH], 1):
@@ -1459,6 +1480,14 @@ OLDER_THAN_GONE = {
         ({"r1.log": field(UID_B)}, 4)),
     "surveys that were cut off, called like a log": (
         (COMPLETE, 0), ({"A.txt": CUT}, 1), ({"A.log": field(UID_A, asks=2)}, 2)),
+    "never judged, of a place that another log is of, too": (
+        ({"A.log": field()}, 3), ({"A.log": field(UID_A)}, 4),
+        ({"r2.log": field(UID_C), **OLD_B}, 2),
+        ({"books.csv": MORE, "p.csv": b"place,log\nA,A.log\nA,r2.log\nB,B.log\n"}, 0)),
+    "surveys of which an inner one was cut off": (
+        (COMPLETE, 0), ({"n.surveys": CUT + CUT + b"answers 0\nend 3 1234\n"}, 1), "Back"),
+    "a catalogue in UTF-16 without its mark": (
+        (COMPLETE, 0), ({"export.csv": BOTH.decode().encode("utf-16-le")}, 1)),
     "a table of places, of which none is here": (
         (COMPLETE, 0), ({"places.csv": b"place,log\nA,A\nB,B\nC,C\n"}, 1), "Back")}
 NO_OLDER = {

@@ -1,5 +1,5 @@
 /** Which open files are older than what was here since the page was empty. */
-import { hasUids, isBroken, isPlaces, isSpreadsheet, isStrange, kindOf, startOf, stemOf, surveyedIn, uncopied, utf8Of } from "./judge/files.mjs";
+import { cellsOf, columnsIn, hasUids, isBroken, isPlaces, isSpreadsheet, isStrange, kindOf, startOf, stemOf, surveyedIn, uncopied, utf8Of } from "./judge/files.mjs";
 import { grouped, madeOnce } from "./judge/groups.mjs";
 import { SENTENCES } from "./say/sentences.mjs";
 
@@ -11,13 +11,13 @@ import { SENTENCES } from "./say/sentences.mjs";
 
 /** How the name of a file ends while it is downloaded, or written; and why a text is no log. */
 export const UNFINISHED = /\.(crdownload|opdownload|download|part|partial|filepart|tmp)$/i, NO_LOG = "a log begins with 'vicinity-log'";
-/** How a log or surveys begin, in whatever coding; how surveys end that weren't cut off, and within how many bytes. */
-const MARK = /v\0?i\0?c\0?i\0?n\0?i\0?t\0?y\0?-/, END = /\nend \d+ \w{4}\r?\n$/, MOST_END = 40;
+/** How a log or surveys begin, in whatever coding; surveys, and one that wasn't cut off. */
+const MARK = /v\0?i\0?c\0?i\0?n\0?i\0?t\0?y\0?-/, SURVEY = /(?=vicinity-survey )/, WHOLE = /^vicinity-survey \d+ .*\n(?:[^]*\n)?end \d+ \w{4}\r?\n$/;
 /** The names by which a log by itself is compared, the rows of a catalogue, and the tags in logs; what each log was judged last, with all places of
- *  which it was; a row with a UID, how many of its cells say which, what isn't read between digits; a tag in a log, and in surveys. */
+ *  which it was; a UID, and one somewhere in a row, how many of its cells say which, what isn't read between digits; a tag in a log, and in surveys. */
 const NAMES = /** @type {WeakMap<Entry, string[]>} */ (new WeakMap()), ROWS = /** @type {WeakMap<Entry, [string, string][]>} */ (new WeakMap());
 const TAGS = /** @type {WeakMap<Entry, Map<string, string[]>>} */ (new WeakMap()), JUDGED = /** @type {Map<string, {log: OneLog, places: Set<string>}>} */ (new Map());
-const A_ROW = /^(|.*?[^0-9A-F\r\n])(E[ \t:-]*0(?:[ \t:-]*[0-9A-F]){14})(?![0-9A-F])(.*)$/gim, MOST_OF_ROW = 2, FILLERS = /[ \t:-]/g;
+const A_UID = /^E0[0-9A-F]{14}$/, UIDS = /E[ :-]*0(?:[ :-]*[0-9A-F]){14}/gi, MOST_OF_ROW = 2, FILLERS = /[ \t:-]/g;
 const HEARD_IN = /^[RH] \w{4}(\w{16})/gm, PROVED_IN = /^certain (\w{16})/gm;
 
 /** @param {Entry} entry */
@@ -52,10 +52,10 @@ const firstName = (name) => uncopied(bareOf(name));
 /** @typedef {{into: Age & {place?: string | null, name?: string}, file: Entry, name: string}} Opened an open file, or a log in a text of surveys, by its own name */
 
 /**
- * Whether a text of surveys has its end, without which it isn't known whose it has.
+ * Whether each survey of a text has its end: otherwise it isn't known whose it has.
  * @param {Entry} file
  */
-const isWhole = (file) => kindOf(file) === "surveys" && END.test(new TextDecoder().decode(file.text.subarray(-MOST_END)));
+const isWhole = (file) => kindOf(file) === "surveys" && new TextDecoder().decode(file.text).split(SURVEY).every((it) => WHOLE.test(it));
 
 /**
  * What a file is called, or the logs in it.
@@ -67,8 +67,8 @@ const namesIn = (file, name = file.was ?? file.name) => isWhole(file) ? surveyed
  * The UIDs that were heard in a log, or proved in each of those in a text of surveys.
  * @param {Entry} file
  */
-const tagsIn = (file) => madeOnce(TAGS, file, () => new Map(new TextDecoder().decode(file.text).split(/^(?=vicinity-survey )/m).map((text) => [
-  /^vicinity-survey \d+ (.*)/.exec(text)?.[1] ?? file.was ?? file.name, [...Array.from(text.matchAll(PROVED_IN), ([, uid]) => uid),
+const tagsIn = (file) => madeOnce(TAGS, file, () => new Map(new TextDecoder().decode(file.text).split(SURVEY).map((text) => [
+  /^vicinity-survey \d+ (.*)/.exec(text)?.[1] ?? file.was ?? file.name, [...Array.from(text.matchAll(PROVED_IN), ([, uid]) => uid.toUpperCase()),
     ...Array.from(text.matchAll(HEARD_IN), ([, uid]) => (uid.match(/../g) ?? []).reverse().join("").toUpperCase())]])));
 
 /**
@@ -130,14 +130,18 @@ function lostIn({ items, unexpected }, before) {
 }
 
 /**
- * The rows of a catalogue by their UIDs, each in a few of its cells.
+ * The rows of a catalogue by their UIDs, each in a few of its cells; where it isn't known which cell is the UID, by all in the row.
  * @param {Entry} file
  * @returns {[string, string][]}
  */
-const rowsIn = (file) => madeOnce(ROWS, file, () => Array.from(new TextDecoder().decode(utf8Of(file.text)).matchAll(A_ROW), ([, before, spelled, behind]) => {
-  const uid = spelled.replace(FILLERS, "").toUpperCase(), cells = `${before}${behind}`.replace(/"/g, "").split(/[,;\t]/).map((it) => it.trim()).filter((it) => it);
-  return [uid, cells.slice(0, MOST_OF_ROW).join(" \u00B7 ") || uid];
-}));
+const rowsIn = (file) => madeOnce(ROWS, file, () => {
+  const lines = new TextDecoder().decode(utf8Of(file.text)).replace(/\0/g, "").split(/\r?\n/), { separator, heads } = columnsIn(lines[0]), at = separator ? heads.indexOf("uid") : -1;
+  return lines.flatMap((line) => {
+    const cells = cellsOf(line, separator || ","), own = (cells[at] ?? "").replace(FILLERS, "").toUpperCase(), words = cells.filter((it, column) => it && column !== at).slice(0, MOST_OF_ROW).join(" \u00B7 "),
+      uids = A_UID.test(own) ? [own] : own === "NONE" ? [] : Array.from(line.split(/[,;\t]/).join("\n").matchAll(UIDS), ([it]) => it.replace(FILLERS, "").toUpperCase());
+    return uids.map((uid) => /** @type {[string, string]} */ ([uid, words || uid]));
+  });
+});
 
 /**
  * The same of a log by itself: only of its name.
@@ -187,7 +191,7 @@ function besideOf(gone, older, { open, without, homes, named, tables }) {
     const alike = (named.get(own) ?? []).filter((it) => !tables.includes(it)), its = isUnread ? open.filter(({ file }) => (file.was ?? file.name) === gone.name.replace(UNFINISHED, ""))
       : places.size > 1 ? [] : alike.filter((it) => where === null || bareOf(it.into.name ?? it.name) === called);
     const fitting = its.filter((it) => isAt(it) && (!belongs.size || !it.into.place || belongs.has(it.into.place)));
-    const isAside = place && without.has(place) && !alike.length || certain && open.some(({ file }) => isSame(file, gone));
-    return orAll(where && fitting.length ? open.filter(({ into }) => into.place === where) : fitting, isAside ? [] : isUnread ? older : older.filter((it) => !tables.includes(it)));
+    const isAside = place && without.has(place) && !alike.length || certain && open.some(({ file }) => isSame(file, gone)), home = fitting.length ? where ?? fitting[0].into.place : null;
+    return orAll(home ? open.filter(({ into }) => into.place === home) : fitting, isAside ? [] : isUnread ? older : older.filter((it) => !tables.includes(it)));
   });
 }

@@ -93,8 +93,7 @@ export function linked(sentence) {
   const parts = sentence.replace(LINE, (it) => /^lines/i.test(it) ? it.replace(/\d+/g, "\0$&\0") : `\0${it}\0`).split("\0");
   const mark = (/** @type {string} */ part) => part.match(/^[,.:;]/)?.[0] ?? "";
   // what follows a line stays with it
-  return parts.map((part, at) => at % 2 ? el("span", { class: "kept" }, toLine(Number(part.match(/\d+/)), part), mark(parts[at + 1]))
-    : at ? part.slice(mark(part).length) : part);
+  return parts.map((part, at) => at % 2 ? el("span", { class: "kept" }, toLine(Number(part.match(/\d+/)), part), mark(parts[at + 1])) : at ? part.slice(mark(part).length) : part);
 }
 
 /**

@@ -6,6 +6,8 @@
 const SURVEYS = "vicinity-survey ", A_SURVEY = /^vicinity-survey \d+ ([^\r\n]*)/gm, A_LOG = /^\uFEFF?vicinity-/, MOST_SEEN = 4096, MOST_OF_HEADS = 32_770;
 /** How a file of a spreadsheet program begins, read as UTF-8: packed as ZIP (.xlsx, .ods, .numbers), or as OLE has it (.xls). */
 const SPREADSHEET = /^(?:PK\x03\x04|\uFFFD\uFFFD\x11[\u0871\uFFFD])/;
+/** The cells of a line of a table, by what stands between them. @type {Record<string, RegExp>} */
+const CELLS = Object.fromEntries([",", ";", "\t"].map((separator) => [separator, new RegExp(`("(?:[^"]|"")*"|[^${separator}"]*)(?:${separator}|$)`, "g")]));
 /** A PDF, or another file that is no text in any coding. */
 const NO_TEXT_AT_ALL = /^%PDF|^(?=[^]*\0)[^]*\uFFFD/;
 /** How the name of a table ends. */
@@ -74,22 +76,22 @@ export const isPlaces = (file) => ["place", "log"].every((head) => headsOf(file)
  * @param {string} line
  * @param {string} separator
  */
-function cellsOf(line, separator) {
-  const found = Array.from(line.matchAll(new RegExp(`("(?:[^"]|"")*"|[^${separator}"]*)(?:${separator}|$)`, "g")));
+export function cellsOf(line, separator) {
+  const found = Array.from(line.matchAll(CELLS[separator]));
   return found.map(([all]) => all).join("") !== line ? [] : found.map(([, cell]) => (cell[0] === '"' ? cell.slice(1, -1).replace(/""/g, '"') : cell).replace(/^[ \t]+|[ \t]+$/g, ""));
 }
 
 /**
  * The columns of a table, folded: under the first of comma, semicolon and tab that gives those that a table has, as the library has it; where
- * none does, all that there are under any.
+ * none does, no separator, and all columns that there are under any.
  * @param {string} line
  */
-function columnsIn(line) {
+export function columnsIn(line) {
   const all = [",", ";", "\t"].map((separator) => ({ separator, heads: cellsOf(line, separator).map((head) => head.toLowerCase()) }));
   return all.find(({ heads }) => {
     const [uid, place, log, away] = ["uid", "place", "log", "away"].map((name) => heads.filter((head) => head === name).length);
     return uid === 1 && place < 2 && away < 2 || !uid && place === 1 && log === 1;
-  }) ?? { separator: ",", heads: all.flatMap(({ heads }) => heads) };
+  }) ?? { separator: "", heads: all.flatMap(({ heads }) => heads) };
 }
 
 /**

@@ -10,8 +10,7 @@
 
 const INTERFACE = 2, NO_ANSWER = 4, NUMBER = 8;
 /** The commands of the program, by the numbers of the header. */
-const COMMAND = Object.freeze({ check: 1, explain: 2, report: 3, margin: 4, simulate: 5, reconcile: 6, frame: 7, spell: 8, survey: 9,
-  collection: 10, json: 11, "json-collection": 12 });
+const COMMAND = Object.freeze({ check: 1, explain: 2, report: 3, margin: 4, simulate: 5, reconcile: 6, frame: 7, spell: 8, survey: 9, collection: 10, json: 11, "json-collection": 12 });
 const ENCODER = new TextEncoder();
 /** How many bytes a command may write, for each byte of its texts too, and at most, also of a collection, so that most texts are judged once. */
 const FIRST_WRITTEN = 4096, WRITTEN_FOR_EACH = 16, MOST_FIRST_WRITTEN = 1 << 20, MOST_OF_ALL = 1 << 26;

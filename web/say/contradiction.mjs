@@ -50,8 +50,7 @@ function woke({ uid: known, line }, { silencer, link }, cycles) {
       `The field was switched off and on in between: then the log needs a line F there${cycles ? "" : ", and the header 'vicinity-log 3'"}.`],
     test: `In a new log, silence ${hex(uid)}, and ask only for it, a few times. If it answers at once, it didn't receive this Stay Quiet; if ` +
       "later, it loses power, or another reader wakes it.", ask: [`T ${stayQuietOf(uid, link)}`, sixteen({ len: UID_LEN, value: uid }, link)],
-    shelf: `Move the item with tag ${hex(uid)} nearer to the antenna and away from others, and count again, in a new log. If you can't find ` +
-      "it, spread all of them out." };
+    shelf: `Move the item with tag ${hex(uid)} nearer to the antenna and away from others, and count again, in a new log. If you can't find it, spread all of them out.` };
 }
 
 /**

@@ -109,8 +109,7 @@ function possible(told, isAlone) {
 function lightsOf(told, isAlone, finished, list) {
   const { object: { kind, count: number, margin, captured: ifHidden, deaf }, counts: { listed } } = told, isComplete = kind === KIND.COMPLETE;
   const other = !isComplete && listed ? "the answer may be wrong" : number === 0 ? "tags may be here" : "others may be here";
-  return [{ name: "Search finished", ...finished },
-    ...isAlone ? [/** @type {Light} */ ({ name: "The reader's list", ...listed ? list : { value: "none given", look: "plain" } })] : [],
+  return [{ name: "Search finished", ...finished },...isAlone ? [/** @type {Light} */ ({ name: "The reader's list", ...listed ? list : { value: "none given", look: "plain" } })] : [],
     ...howSure(isComplete && deaf ? margin : 0, number ? "still complete" : "still empty", other, isShaken(told, ifHidden), isShaken(told, deaf))];
 }
 

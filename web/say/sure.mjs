@@ -113,8 +113,7 @@ export const mayBeWrong = (where) => `${IF_HIDDEN}may be wrong. To know,${where}
  * @param {Partial<Margin>} of
  * @param {string} [where]
  */
-export const missed = ({ margin, weakest }, where = "") => !margin || !weakest ? []
-  : [`To go unnoticed, a tag would have had to be missed in ${count(margin, "slot")}${where}` +
+export const missed = ({ margin, weakest }, where = "") => !margin || !weakest ? [] : [`To go unnoticed, a tag would have had to be missed in ${count(margin, "slot")}${where}` +
     `${weakest.mask_len ? `; that is enough for ${ending(maskOf(weakest))}, for example` : ", whatever its UID"}.`];
 
 /**
