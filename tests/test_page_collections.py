@@ -1282,6 +1282,8 @@ ROWS_OF_C = {
                              b"Walden,B\nwith E0:04:01:00:00:00:00:A1,E0040100000000C3,Kim,A\n",
     "a tab before it": b"note\tuid\ttitle\nE0\tE0:04:01:00:00:00:00:C3\tKim\n",
     "refused": b"with,uid,place\nE0040100000000A1,E0040100000000C3,A\n",
+    "none in its cell": BOTH + b"none,Kim E0040100000000C3,A\n",
+    "two rows in a line": BOTH + b"E0040100000000A1,Emma,AE0040100000000C3,Kim,A\n",
     "broken UTF-16": b"\xff\xfe" + (BOTH + b"E0040100000000C3,Kim,A\n").decode().encode(
         "utf-16-le") + b"0",
     "UTF-16 without a mark": (BOTH + b"E0040100000000C3,Kim,A\n").decode().encode("utf-16-le")}
@@ -1798,8 +1800,9 @@ def test_a_later_count_by_the_name_of_a_copy_is_not_forgotten(page):
 
 def test_a_copy_is_of_its_place_by_all_that_was_heard_in_it(page):
     """If it is left out, what is older of that place is asked about; otherwise all is."""
-    for uids, those in ([UID_A], "log of A is"), ([UID_A, UID_B], "logs of A and B are"), (
-            [], "logs of A and B are"):
+    all_of = "logs of A and B are"
+    for uids, those in ([UID_A], "log of A is"), ([UID_A, UID_B], all_of), ([], all_of), (
+            [UID_A, UID_C], all_of):
         drop(page, COMPLETE, {name: NOON for name in COMPLETE})
         drop(page, {"A (1).log": field(*uids, asks=2)}, {"A (1).log": NOON + HOUR})
         pressed(page, "Only A.log")

@@ -12,7 +12,7 @@ import { SENTENCES } from "./say/sentences.mjs";
 /** How the name of a file ends while it is downloaded, or written; and why a text is no log. */
 export const UNFINISHED = /\.(crdownload|opdownload|download|part|partial|filepart|tmp)$/i, NO_LOG = "a log begins with 'vicinity-log'";
 /** How a log or surveys begin, in whatever coding; surveys, and one that wasn't cut off. */
-const MARK = /v\0?i\0?c\0?i\0?n\0?i\0?t\0?y\0?-/, SURVEY = /(?=vicinity-survey )/, WHOLE = /^vicinity-survey \d+ .*\n(?:[^]*\n)?end \d+ \w{4}\r?\n$/;
+const MARK = /v\0?i\0?c\0?i\0?n\0?i\0?t\0?y\0?-/, SURVEY = /(?=vicinity-survey )/, WHOLE = /^vicinity-survey \d+ .*\n(?:[^]*\n)?end (\d+) \w{4}\r?\n$/;
 /** The names by which a log by itself is compared, the rows of a catalogue, and the tags in logs; what each log was judged last, with all places of
  *  which it was; a UID, and one somewhere in a row, how many of its cells say which, what isn't read between digits; a tag in a log, and in surveys. */
 const NAMES = /** @type {WeakMap<Entry, string[]>} */ (new WeakMap()), ROWS = /** @type {WeakMap<Entry, [string, string][]>} */ (new WeakMap());
@@ -55,7 +55,7 @@ const firstName = (name) => uncopied(bareOf(name));
  * Whether each survey of a text has its end: otherwise it isn't known whose it has.
  * @param {Entry} file
  */
-const isWhole = (file) => kindOf(file) === "surveys" && new TextDecoder().decode(file.text).split(SURVEY).every((it) => WHOLE.test(it));
+const isWhole = (file) => kindOf(file) === "surveys" && new TextDecoder().decode(file.text).split(SURVEY).every((it) => Number(WHOLE.exec(it)?.[1]) === it.split("\n").length - 1);
 
 /**
  * What a file is called, or the logs in it.
@@ -109,7 +109,7 @@ export const isNeither = (it) => kindOf(it) === "other" && !isBroken(it) && !MAR
  * @param {Entry[]} away
  */
 export function putAges(object, { tables, logs }, away) {
-  const byName = new Map(logs.flatMap((file) => namesIn(file, file.name).map((name) => [name, file]))), ofLogs = object.logs.flatMap((into) => {
+  const byName = new Map(logs.flatMap((file) => (kindOf(file) === "surveys" ? surveyedIn(file) : [file.name]).map((name) => [name, file]))), ofLogs = object.logs.flatMap((into) => {
     const file = byName.get(into.name), name = file?.was ?? into.name, key = `${file?.id} ${name}`, places = JUDGED.get(key)?.places ?? [];
     return file && JUDGED.set(key, { log: Object.assign(into, { was: file.was }), places: new Set([...places, ...into.place === null ? [] : [into.place]]) }) ? { into, file, name } : [];
   });
@@ -138,7 +138,7 @@ const rowsIn = (file) => madeOnce(ROWS, file, () => {
   const lines = new TextDecoder().decode(utf8Of(file.text)).replace(/\0/g, "").split(/\r?\n/), { separator, heads } = columnsIn(lines[0]), at = separator ? heads.indexOf("uid") : -1;
   return lines.flatMap((line) => {
     const cells = cellsOf(line, separator || ","), own = (cells[at] ?? "").replace(FILLERS, "").toUpperCase(), words = cells.filter((it, column) => it && column !== at).slice(0, MOST_OF_ROW).join(" \u00B7 "),
-      uids = A_UID.test(own) ? [own] : own === "NONE" ? [] : Array.from(line.split(/[,;\t]/).join("\n").matchAll(UIDS), ([it]) => it.replace(FILLERS, "").toUpperCase());
+      uids = A_UID.test(own) && cells.length === heads.length && !/\r|(?:^|[^0-9A-F])E0[0-9A-F]{14}(?![0-9A-F])/i.test(cells.filter((_, column) => column !== at).join("\n")) ? [own] : Array.from(line.split(/[,;\t]/).join("\n").matchAll(UIDS), ([it]) => it.replace(FILLERS, "").toUpperCase());
     return uids.map((uid) => /** @type {[string, string]} */ ([uid, words || uid]));
   });
 });
@@ -180,18 +180,18 @@ function put(open, away, items = []) {
  * @param {{open: Opened[], without: Set<string | null>, homes: Map<string | null, string>, named: Map<string, Opened[]>, tables: Opened[]}} here
  */
 function besideOf(gone, older, { open, without, homes, named, tables }) {
-  const orAll = (/** @type {Opened[]} */ its, all = older) => its.length ? its : all, isUnread = !gone.text.length || kindOf(gone) === "other" || kindOf(gone) === "surveys" && !isWhole(gone);
+  const orAll = (/** @type {Opened[]} */ its, all = older) => its.length ? its : all, isUnread = !/^vicinity-log /.test(startOf(gone)) && !isWhole(gone);
   if (isATable(gone) && (!strangeness(gone) || rowsIn(gone).length)) return orAll(tables.filter(({ file }) => isPlaces(file) === isPlaces(gone)));
   if (strangeness(gone) && !MARK.test(startOf(gone))) return older.filter(({ name }) => rootOf(name) === rootOf(gone.name));
   return namesIn(gone).flatMap((name) => {
     const { log: { name: as = name, place = undefined, certain = 0 } = {}, places = new Set() } = JUDGED.get(`${gone.id} ${name}`) ?? {}, own = firstName(name);
-    const belongs = new Set((tagsIn(gone).get(name) ?? []).flatMap((uid) => homes.get(uid) ?? [])), isCopy = place === null && belongs.size === 1 && belongs.has(own), [where, called] = isCopy ? [own, own] : [place, bareOf(as)];
+    const heard = tagsIn(gone).get(name) ?? [], belongs = new Set(heard.flatMap((uid) => homes.get(uid) ?? [])), isCopy = place === null && heard.length && heard.every((uid) => homes.get(uid) === own), [where, called] = isCopy ? [own, own] : [place, bareOf(as)];
     // of no place that a log is of by its own name, if it was never judged
     const isAt = (/** @type {Opened} */ { name, into: { place = null } }) => where === undefined ? place === null || place === bareOf(name) : place === where;
     const alike = (named.get(own) ?? []).filter((it) => !tables.includes(it)), its = isUnread ? open.filter(({ file }) => (file.was ?? file.name) === gone.name.replace(UNFINISHED, ""))
       : places.size > 1 ? [] : alike.filter((it) => where === null || bareOf(it.into.name ?? it.name) === called);
-    const fitting = its.filter((it) => isAt(it) && (!belongs.size || !it.into.place || belongs.has(it.into.place)));
-    const isAside = place && without.has(place) && !alike.length || certain && open.some(({ file }) => isSame(file, gone)), home = fitting.length ? where ?? fitting[0].into.place : null;
+    const fits = its.filter((it) => isAt(it) && (!belongs.size || !it.into.place || belongs.has(it.into.place))), fitting = isUnread && fits.length < its.length ? [] : fits;
+    const isAside = place && without.has(place) && !alike.length || certain && open.some(({ file }) => isSame(file, gone)), home = fitting.length && !isUnread ? where ?? fitting[0].into.place : null;
     return orAll(home ? open.filter(({ into }) => into.place === home) : fitting, isAside ? [] : isUnread ? older : older.filter((it) => !tables.includes(it)));
   });
 }
