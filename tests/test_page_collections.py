@@ -1488,6 +1488,12 @@ OLDER_THAN_GONE = {
         ({"books.csv": MORE, "p.csv": b"place,log\nA,A.log\nA,r2.log\nB,B.log\n"}, 0)),
     "surveys of which an inner one was cut off": (
         (COMPLETE, 0), ({"n.surveys": CUT + CUT + b"answers 0\nend 3 1234\n"}, 1), "Back"),
+    "surveys behind a byte order mark, called like a log": (
+        (COMPLETE, 0), ({"A.surveys": b"\xef\xbb\xbf" + CUT}, 1),
+        ({"A.log": field(UID_A, asks=2)}, 2)),
+    "a survey that isn't as long as its end says": (
+        (COMPLETE, 0), ({"n.surveys": CUT + b"answers 0\nend 9 1234\n"}, 1), "Back",
+        ({"A.log": field(UID_A, asks=2)}, 2)),
     "a catalogue in UTF-16 without its mark": (
         (COMPLETE, 0), ({"export.csv": BOTH.decode().encode("utf-16-le")}, 1)),
     "a table of places, of which none is here": (
@@ -1772,6 +1778,29 @@ def test_a_new_log_beside_an_older_text_of_surveys(page, program, tmp_path):
     page.until(".error", "another log has that name")
     page.press("#told button")
     page.until("h1", "no log of B; nothing answered in A.")
+
+
+def test_logs_in_texts_of_surveys_are_compared_by_their_names(page, program, tmp_path):
+    """Whatever these are, and each of them, if a text of that name couldn't be read."""
+    def surveyed(logs):
+        for name, log in logs.items():
+            (tmp_path / name).write_bytes(log)
+        return program.run("survey", *logs, cwd=tmp_path).out
+
+    both = {"A.log": field(UID_A), "B.log": field(UID_B)}
+    drop(page, {"books.csv": BOTH, "n.surveys": surveyed(both)},
+         {"books.csv": NOON, "n.surveys": NOON})
+    drop(page, {"n.surveys.part": b"vicinity-survey 1"}, {"n.surveys.part": NOON + HOUR})
+    pressed(page, "Back")
+    page.until("h1", "but the logs of A and B are older than those that were here.")
+    page.press("#close")
+    table, name = books((UID_A, ""), (UID_B, ""), head="uid,title"), "vicinity-survey A.log"
+    for hours, uids in (0, [UID_A, UID_B]), (1, [UID_A]):
+        drop(page, {"books.csv": table, "n.surveys": surveyed({name: field(*uids)})},
+             {"books.csv": NOON + 2 * HOUR, "n.surveys": NOON + hours * HOUR})
+    page.until("h1", "1 item missing (Walden).")
+    pressed(page, "Back")
+    page.until("h1", f"but the log of {name} is older than one that was here.")
 
 
 # How files may be called, of which one is another count of the other.
