@@ -569,13 +569,17 @@ def test_until_it_is_said_which_of_two_counts_nothing_is_sure(page):
     assert not page.texts(".light.yes")
 
 
-@pytest.mark.parametrize("names", [["z.pdf"], ["z.pdf", "list.txt"]])
+@pytest.mark.parametrize("names", [["z.pdf"], ["y.pdf", "z.pdf", "list.txt"]])
 def test_what_is_no_log_takes_no_collection_away(page, names):
+    """It is said what it is."""
     drop(page, COMPLETE)
     drop(page, {name: b"%PDF-1.7\n" if "pdf" in name else b"E0040100000000A1\n"
                 for name in names})
     page.until(".note", "The collection is still here.")
-    assert page.texts(".note")[1].startswith(" and ".join(names)) and look(page) == "yes"
+    said = ["y.pdf and z.pdf were left out: a PDF.",
+            "list.txt was left out: a list of tag numbers."]
+    assert page.texts(".note")[1:] == (said if len(names) > 1 else ["z.pdf was left out: a PDF."])
+    assert look(page) == "yes"
 
 
 @pytest.mark.parametrize(("name", "text", "why"), [
@@ -782,7 +786,7 @@ def test_a_catalogue_is_not_replaced_without_a_word(page, how):
     page.until(".note", said)
     assert page.texts(".note") == [said]
     assert page.run(TOLD) == f"{said} {page.texts('h1')[0]}"
-    asked = "; 1 tag of the catalogue before has no row now: Walden \u00B7 B;"
+    asked = "; 1 tag of a table that was here has no row now: Walden \u00B7 B;"
     assert asked in page.texts("h1")[0]
     # once it is heard it is said as what it is
     drop(page, {"B.log": field(UID_B)})
@@ -903,7 +907,7 @@ def test_of_two_logs_of_one_name_one_is_left_out(page, names):
     """They have the times at which they were changed. The second one is the log of a tag more."""
     files = zip((*names, "B.log", "books.csv"),
                 (field(UID_A), field(UID_A, UID_C), field(UID_B), BOTH))
-    page.run(DROP, [[name, b64encode(text).decode(), NOON - at * HOUR]
+    page.run(DROP, [[name, b64encode(text).decode(), NOON - HOUR * (at == 1)]
                     for at, (name, text) in enumerate(files)])
     page.until(".error", "another log has that name, or is of a place by the same name")
     assert "next catalogue" not in page.said()
@@ -1211,7 +1215,7 @@ def test_an_older_catalogue_is_asked_about(page, tmp_path):
     for name, early in ("books.csv", 30 * DAY), ("b.csv", 20 * DAY):
         drop(page, {name: BOTH}, {name: NOON - early})
         assert page.texts("h1") == [
-            "All 2 expected items are in some log; but 1 tag of the catalogue before has no row "
+            "All 2 expected items are in some log; but 1 tag of a table that was here has no row "
             f"now: Kim \u00B7 A and {name} is older than one that was here."]
         assert look(page) == "read" and not page.texts(".light.yes")
     pressed(page, "It isn't expected any more")
@@ -1220,7 +1224,7 @@ def test_an_older_catalogue_is_asked_about(page, tmp_path):
                     r"\d\d:\d6, which isn't here any more\.$", words)
     page.press(".doubts button")
     page.until(".banner.yes h1", "All 2 expected items are here, and no others.")
-    said = ["The catalogue that was here before has 1 more tag, of which no log tells: "
+    said = ["books.csv as it was here before has 1 more tag, of which no log tells: "
             "Kim \u00B7 A. It was answered here: 'It isn't expected any more'.",
             f"{words} It was answered here: 'The older one counts'."]
     assert page.texts(".note") == said
@@ -1253,10 +1257,9 @@ def test_nothing_is_complete_by_a_row_that_is_gone(page, how, tmp_path):
     drop(page, {name: COMPLETE[name] for name in ("A.log", "B.log")},
          {"A.log": NOON + HOUR, "B.log": NOON + HOUR})
     assert page.texts("h1") == [
-        "All 2 expected items are in some log; but 1 tag of the catalogue before has no row now: "
+        "All 2 expected items are in some log; but 1 tag of a table that was here has no row now: "
         "Kim \u00B7 A."]
-    words = ("The catalogue that was here before has 1 more tag, of which no log tells: "
-             "Kim \u00B7 A.")
+    words = "books.csv as it was here before has 1 more tag, of which no log tells: Kim \u00B7 A."
     assert look(page) == "read" and page.texts(".doubts b") == [words]
     page.media("print")
     assert "This is no result yet" in page.said() and not page.texts(".signed")
@@ -1273,7 +1276,7 @@ def test_a_row_is_known_however_its_uid_is_written(page, spelled):
     drop(page, {**COMPLETE, "books.csv": BOTH + f"{spelled},Kim,A\n".encode()})
     page.until("h1", "1 item missing (Kim, of A)")
     drop(page, {"books.csv": BOTH})
-    page.until("h1", "but 1 tag of the catalogue before has no row now: Kim \u00B7 A.")
+    page.until("h1", "but 1 tag of a table that was here has no row now: Kim \u00B7 A.")
 
 
 # Catalogues with a row of which the next has none, in which more than one UID or none is read.
@@ -1294,7 +1297,7 @@ def test_a_row_is_known_by_its_own_cell(page, how):
     drop(page, {**COMPLETE, "books.csv": ROWS_OF_C[how]}, {name: NOON for name in COMPLETE})
     assert look(page) != "yes"
     drop(page, {"books.csv": BOTH}, {"books.csv": NOON + HOUR})
-    page.until("h1", "but 1 tag of the catalogue before has no row now: ")
+    page.until("h1", "but 1 tag of a table that was here has no row now: ")
     drop(page, {"books.csv": BOTH + b"E0040100000000C3,Kim,A\n"}, {"books.csv": NOON + 2 * HOUR})
     assert page.texts("h1") == ["1 item missing (Kim, of A)."]
 
@@ -1494,6 +1497,19 @@ OLDER_THAN_GONE = {
     "a survey that isn't as long as its end says": (
         (COMPLETE, 0), ({"n.surveys": CUT + b"answers 0\nend 9 1234\n"}, 1), "Back",
         ({"A.log": field(UID_A, asks=2)}, 2)),
+    "of no place, and its name is of one now": (
+        ({"books.csv": BOTH, "scan.log": field()}, 3),
+        ({"p.csv": b"place,log\nA,old.log\nB,scan.log\n", "scan.log": field(UID_B)}, 4),
+        ({"old.log": field(UID_A)}, 0)),
+    "refused, of a place of which its name isn't any more": (
+        ({"list.csv": b"uid,place\nE0040100000000A1,A\nno UID,B\n", "r1.log": field(),
+          "p.csv": b"place,log\nA,r1.log\n"}, 3),
+        ({"books.csv": BOTH, "p.csv": b"place,log\nA,old.log\nB,r1.log\n",
+          "r1.log": field(UID_B)}, 4),
+        ({"old.log": field(UID_A)}, 0)),
+    "not whole, of a reader that calls all its logs alike": (
+        ({"books.csv": BOTH, **OLD_A}, 0), ({"r2.log.part": field()}, 1),
+        ({"r2.log": field(UID_B)}, 2), "Count it as B"),
     "a catalogue in UTF-16 without its mark": (
         (COMPLETE, 0), ({"export.csv": BOTH.decode().encode("utf-16-le")}, 1)),
     "a table of places, of which none is here": (
@@ -1504,6 +1520,9 @@ NO_OLDER = {
     "whole then": ((COMPLETE, 0), ({"books.csv.part": b"uid"}, 1), ({"books.csv": BOTH}, 2)),
     "by another name": (({"books.csv": BOTH, **OLD_B}, 0), ({"shelf.log": field(UID_A)}, 1),
                         "Leave out shelf.log", (OLD_A, 1)),
+    "as a copy": ((COMPLETE, 0), ({"B.log": field(UID_B, asks=2)}, 1),
+                  ({"A (1).log": field(UID_A, asks=2)}, 2), "Only A (1).log"),
+    "not whole at first": ((COMPLETE, 0), ({"A.log.part": b"vicinity-log 3"}, 1), (OLD_A, 2)),
     "no log at all": ((COMPLETE, 0), ({"photo.jpg": b"\xff\xd8\xff\xe0\x00"}, 1))}
 
 
@@ -1734,9 +1753,8 @@ def test_a_date_behind_a_dot_may_be_an_ending(page, is_at_once):
         "but the log of A is older than one that was here.")
     drop(page, {**logs, "A.20261130": field(UID_B), "books.csv": books(
         (UID_A, ",A.20261129"), (UID_B, ",A.20261130"))}, dates)
-    if not is_at_once:
-        # it was judged, as the log of another place
-        pressed(page, "The older one counts")
+    # it was never judged, or as the log of another place
+    pressed(page, "The older one counts")
     until_green(page)
 
 
@@ -1771,9 +1789,9 @@ def test_a_new_log_beside_an_older_text_of_surveys(page, program, tmp_path):
     assert re.match("Leave out north.surveys, the older file, of 19 Oct 2026, ", first)
     assert re.match("Leave out A.log of 18 Nov 2026, ", second)
     page.press("#told button", 1)
-    page.until("h1", "items are in some log; but the log of A is older than one that was here.")
-    assert look(page) == "read" and re.match("A.log of 19 Oct .* is older than A.log of 18 Nov",
-                                             page.texts(".doubts b")[0])
+    page.until("h1", "in some log; but the logs of A and B are older than those that were here.")
+    assert look(page) == "read" and re.search("A.log is of 19 Oct .*, A.log was of 18 Nov",
+                                              page.texts(".doubts b")[0])
     page.press("#back")
     page.until(".error", "another log has that name")
     page.press("#told button")
@@ -2432,7 +2450,7 @@ def test_a_copy_of_a_log_is_older_than_one_that_was_closed(page):
     closed = "What was here (B.log) was closed."
     assert page.texts(".note") == [closed]
     page.press(".doubts button")
-    page.until("h1", "the logs of A and B are older than those that were here.")
+    page.until("h1", "the log of B is older than one that was here.")
     assert closed in page.texts(".note") and look(page) == "read"
 
 

@@ -1,24 +1,23 @@
 /** Which open files are older than what was here since the page was empty. */
 import { cellsOf, columnsIn, hasUids, isBroken, isPlaces, isSpreadsheet, isStrange, kindOf, startOf, stemOf, surveyedIn, uncopied, utf8Of } from "./judge/files.mjs";
-import { grouped, madeOnce } from "./judge/groups.mjs";
+import { madeOnce } from "./judge/groups.mjs";
+import { KIND } from "./judge/objects.mjs";
 import { SENTENCES } from "./say/sentences.mjs";
 
 /** @typedef {import("./opened.mjs").Entry} Entry */
 /** @typedef {import("./judge/objects.mjs").CollectionObject} CollectionObject */
-/** @typedef {import("./judge/objects.mjs").OneLog} OneLog */
 /** @typedef {{changed?: number, newer?: number, than?: string, beside?: number}} Age when a file was changed, and the newest one beside which it may
  *   not count; and the sum of what these are known by */
 
 /** How the name of a file ends while it is downloaded, or written; and why a text is no log. */
 export const UNFINISHED = /\.(crdownload|opdownload|download|part|partial|filepart|tmp)$/i, NO_LOG = "a log begins with 'vicinity-log'";
-/** How a log or surveys begin, in whatever coding; surveys, and one that wasn't cut off. */
-const MARK = /v\0?i\0?c\0?i\0?n\0?i\0?t\0?y\0?-/, SURVEY = /(?=vicinity-survey )/, WHOLE = /^vicinity-survey \d+ .*\n(?:[^]*\n)?end (\d+) \w{4}\r?\n$/;
-/** The names by which a log by itself is compared, the rows of a catalogue, and the tags in logs; what each log was judged last, with all places of
- *  which it was; a UID, and one somewhere in a row, how many of its cells say which, what isn't read between digits; a tag in a log, and in surveys. */
-const NAMES = /** @type {WeakMap<Entry, string[]>} */ (new WeakMap()), ROWS = /** @type {WeakMap<Entry, [string, string][]>} */ (new WeakMap());
-const TAGS = /** @type {WeakMap<Entry, Map<string, string[]>>} */ (new WeakMap()), JUDGED = /** @type {Map<string, {log: OneLog, places: Set<string>}>} */ (new Map());
+/** How a log or surveys begin, in whatever coding; a tag in a log, and in surveys. */
+const MARK = /v\0?i\0?c\0?i\0?n\0?i\0?t\0?y\0?-/, HEARD_IN = /^[RH] \w{4}(\w{16})/gm, PROVED_IN = /^certain (\w{16})/gm;
+/** The rows of a catalogue, and the UIDs in logs; by the number of a file that was judged, all places of which its logs were. */
+const ROWS = /** @type {WeakMap<Entry, [string, string][]>} */ (new WeakMap()), HEARD = /** @type {WeakMap<Entry, string[]>} */ (new WeakMap());
+const JUDGED = /** @type {Map<number, Set<string | null>>} */ (new Map());
+/** A UID, and one somewhere in a row, how many of its cells say which, and what isn't read between digits. */
 const A_UID = /^E0[0-9A-F]{14}$/, UIDS = /E[ :-]*0(?:[ :-]*[0-9A-F]){14}/gi, MOST_OF_ROW = 2, FILLERS = /[ \t:-]/g;
-const HEARD_IN = /^[RH] \w{4}(\w{16})/gm, PROVED_IN = /^certain (\w{16})/gm;
 
 /** @param {Entry} entry */
 export const isATable = (entry) => kindOf(entry) === "table";
@@ -38,38 +37,26 @@ export const strangeness = (entry) => kindOf(entry) !== "other" && (!isCatalogue
  */
 export const bareOf = (name) => stemOf(name.replace(UNFINISHED, "").replace(/\.\d+$/, "$&."));
 /**
- * A name without dates, numbers and what copies have: what has no mark of a log counts only where an open file has the same.
+ * A name without what copies have, and as the root of others, without dates and numbers, too.
  * @param {string} name
  */
-const rootOf = (name) => uncopied(bareOf(name)).replace(/[^\p{L}]+/gu, "").toLowerCase();
+const firstName = (name) => uncopied(bareOf(name)), rootOf = (/** @type {string} */ name) => firstName(name).replace(/[^\p{L}]+/gu, "").toLowerCase();
+
+/** @typedef {{into: Age & {place?: string | null, name?: string}, file: Entry, name: string}} Opened an open table, or a log by its own name, which may be in a text of surveys */
 
 /**
- * A name without what copies have.
- * @param {string} name
- */
-const firstName = (name) => uncopied(bareOf(name));
-
-/** @typedef {{into: Age & {place?: string | null, name?: string}, file: Entry, name: string}} Opened an open file, or a log in a text of surveys, by its own name */
-
-/**
- * Whether each survey of a text has its end: otherwise it isn't known whose it has.
+ * The UIDs that were heard in a log, or are proved in a text of surveys.
  * @param {Entry} file
  */
-const isWhole = (file) => kindOf(file) === "surveys" && new TextDecoder().decode(file.text).split(SURVEY).every((it) => Number(WHOLE.exec(it)?.[1]) === it.split("\n").length - 1);
+const heardIn = (file) => madeOnce(HEARD, file, (text = new TextDecoder().decode(file.text)) => [...Array.from(text.matchAll(PROVED_IN), ([, uid]) => uid.toUpperCase()),
+  ...Array.from(text.matchAll(HEARD_IN), ([, uid]) => (uid.match(/../g) ?? []).reverse().join("").toUpperCase())]);
 
 /**
- * What a file is called, or the logs in it.
+ * Keeps of which places a log is that could be judged, or those in a text of surveys.
  * @param {Entry} file
+ * @param {(string | null)[]} places
  */
-const namesIn = (file, name = file.was ?? file.name) => isWhole(file) ? surveyedIn(file) : [name];
-
-/**
- * The UIDs that were heard in a log, or proved in each of those in a text of surveys.
- * @param {Entry} file
- */
-const tagsIn = (file) => madeOnce(TAGS, file, () => new Map(new TextDecoder().decode(file.text).split(SURVEY).map((text) => [
-  /^vicinity-survey \d+ (.*)/.exec(text)?.[1] ?? file.was ?? file.name, [...Array.from(text.matchAll(PROVED_IN), ([, uid]) => uid.toUpperCase()),
-    ...Array.from(text.matchAll(HEARD_IN), ([, uid]) => (uid.match(/../g) ?? []).reverse().join("").toUpperCase())]])));
+const judge = ({ id }, places) => JUDGED.set(id, new Set([...JUDGED.get(id) ?? [], ...places]));
 
 /**
  * Whether two files have the same bytes.
@@ -79,21 +66,14 @@ const tagsIn = (file) => madeOnce(TAGS, file, () => new Map(new TextDecoder().de
 const isEqual = ({ text: one }, { text: other }) => one.length > 0 && one.length === other.length && one.every((byte, at) => byte === other[at]);
 
 /**
- * Whether two are one file, by whatever names.
- * @param {Entry} one
- * @param {Entry} other
- */
-const isSame = (one, other) => one.id === other.id || one.changed === other.changed && isEqual(one, other);
-
-/**
- * What isn't open any more, but what by its bytes was no log and no table, and what was typed.
+ * What isn't open any more, also by no other name if a tag was heard in it; but what by its bytes was no log and no table, and what was typed.
  * @param {Entry[]} seen
  * @param {Entry[]} open
  */
 export function awayOf(seen, open) {
-  const named = grouped(open, ({ name, was = name }) => was), isNothing = (/** @type {Entry} */ it) => isStrange(it) && isNeither(it);
-  const isOpen = (/** @type {Entry} */ it) => named.get(it.name)?.some((other) => isSame(other, it));
-  return seen.filter((it) => !isOpen(it) && !isNothing(it) && (!it.made || isATable(it)));
+  const isSame = (/** @type {Entry} */ one, /** @type {Entry} */ other) => one.id === other.id || one.changed === other.changed && isEqual(one, other);
+  const isOpen = (/** @type {Entry} */ it) => open.some((other) => isSame(other, it) && (it.name === (other.was ?? other.name) || heardIn(it).length > 0));
+  return seen.filter((it) => !isOpen(it) && !(isStrange(it) && isNeither(it)) && (!it.made || isATable(it)));
 }
 
 /**
@@ -109,9 +89,12 @@ export const isNeither = (it) => kindOf(it) === "other" && !isBroken(it) && !MAR
  * @param {Entry[]} away
  */
 export function putAges(object, { tables, logs }, away) {
-  const byName = new Map(logs.flatMap((file) => (kindOf(file) === "surveys" ? surveyedIn(file) : [file.name]).map((name) => [name, file]))), ofLogs = object.logs.flatMap((into) => {
-    const file = byName.get(into.name), name = file?.was ?? into.name, key = `${file?.id} ${name}`, places = JUDGED.get(key)?.places ?? [];
-    return file && JUDGED.set(key, { log: Object.assign(into, { was: file.was }), places: new Set([...places, ...into.place === null ? [] : [into.place]]) }) ? { into, file, name } : [];
+  const byName = new Map(logs.flatMap((file) => (kindOf(file) === "surveys" ? surveyedIn(file) : [file.name]).map((name) => [name, file])));
+  const ofLogs = object.logs.flatMap((into) => {
+    const file = byName.get(into.name);
+    if (!file) return [];
+    if (!into.field.startsWith("refused")) judge(file, into.place !== null || into.left_over ? [into.place] : []);
+    return { into: Object.assign(into, { was: file.was }), file, name: file.was ?? into.name };
   });
   put([...tables.map((file, at) => ({ into: object.files[at], file, name: file.name })), ...ofLogs], away, away.length ? object.items : []);
   object.lost = lostIn(object, away.filter(isCatalogue));
@@ -126,7 +109,7 @@ export function putAges(object, { tables, logs }, away) {
 function lostIn({ items, unexpected }, before) {
   const known = new Set((before.length ? [...items, ...unexpected] : []).map(({ uid }) => uid));
   const files = before.map((file) => ({ file, its: rowsIn(file).filter(([uid]) => !known.has(uid)) })).filter(({ its }) => its.length), rows = new Map(files.flatMap(({ its }) => its));
-  return { rows: [...rows.values()], key: `${files.map(({ file }) => file.id)}: ${[...rows.keys()]}` };
+  return { rows: [...rows.values()], key: `${files.map(({ file }) => file.id)}: ${[...rows.keys()]}`, names: [...new Set(files.map(({ file }) => file.name))] };
 }
 
 /**
@@ -144,13 +127,14 @@ const rowsIn = (file) => madeOnce(ROWS, file, () => {
 });
 
 /**
- * The same of a log by itself: only of its name.
- * @param {Age} into
+ * The same of a log by itself: only of its name, or in texts of surveys.
+ * @param {Age & {kind: string}} into
  * @param {Entry} file
  * @param {Entry[]} away
  */
-export function putAge(into, file, away, one = { into, file, name: file.was ?? file.name }, own = firstName(one.name)) {
-  put([one], away.filter((it) => madeOnce(NAMES, it, () => namesIn(it).map(firstName)).includes(own)));
+export function putAge(into, file, away, one = { into, file, name: file.was ?? file.name }) {
+  if (into.kind !== KIND.REFUSED) judge(file, []);
+  put([one], away.filter((it) => kindOf(it) === "surveys" || firstName(it.was ?? it.name) === firstName(one.name)));
 }
 
 /**
@@ -160,38 +144,35 @@ export function putAge(into, file, away, one = { into, file, name: file.was ?? f
  * @param {import("./judge/objects.mjs").Item[]} [items]
  */
 function put(open, away, items = []) {
-  const without = new Set(items.map(({ state, place }) => state === "not counted" ? place : null)), homes = new Map(items.flatMap(({ uid, place }) => place === null ? [] : [[uid, place]]));
-  const here = { open, without, homes, named: grouped(open, ({ name }) => firstName(name)), tables: open.filter(({ file }) => isATable(file)) };
+  const without = new Set(items.flatMap(({ state, place }) => state === "not counted" ? [place] : [])), homes = new Map(items.map(({ uid, place }) => [uid, place]));
+  const [tables, logs] = [true, false].map((is) => open.filter(({ file }) => isATable(file) === is)), here = { tables, logs, without, homes };
   for (const { into, file: { changed } } of open) Object.assign(into, { changed, newer: undefined, than: undefined, beside: undefined });
   for (const gone of away) {
-    const { changed: newer = 0, name: than, id } = gone, older = open.filter(({ file }) => (file.changed ?? Infinity) < newer), beside = new Set(older.length ? besideOf(gone, older, here) : []);
-    for (const it of older) if (beside.has(it) && !isEqual(it.file, gone)) Object.assign(it.into, { beside: (it.into.beside ?? 0) + id }, newer > (it.into.newer ?? -Infinity) && { newer, than });
+    const { changed: newer = 0, name: than, id } = gone, isOlder = (/** @type {Opened} */ { file }) => (file.changed ?? Infinity) < newer && !isEqual(file, gone);
+    for (const { into } of open.some(isOlder) ? besideOf(gone, here).filter(isOlder) : []) Object.assign(into, { beside: (into.beside ?? 0) + id }, newer > (into.newer ?? -Infinity) && { newer, than });
   }
 }
 
 /**
- * Beside which older ones. A table is compared with that of its kind. What has no mark of a log was one only by its name. A log is compared with
- * those of its place, if one of these has its name, or that of a copy, and unless it was of several, or all that was heard in it belongs
- * elsewhere; one of no place that is called like a copy, with those of the place of that name, if all that was heard in it belongs there. What
- * couldn't be read is compared with what has the file's name. Where there is none, what is gone is compared with all: but a log not while its
- * place has no log, and none of its name is here, nor where its tags are here by another name of the file.
+ * Beside which files. A table is compared with those of its kind, if one is here, and otherwise with all; an unfinished file with that which it
+ * will be; what has no mark of a log with what has its name. A log is compared with those of its name, and of each place of which it may be: of
+ * which these are, of which it was judged, and where what was heard in it belongs. One of no place is of the one like which it is called, also as
+ * a copy, if all that was heard in it belongs there. It may be of any if it was never judged, none of its name is here but by another, a place of
+ * which it was has no log, or it was of none and that of its name isn't any more: but not while all places of which it was have none.
  * @param {Entry} gone
- * @param {Opened[]} older
- * @param {{open: Opened[], without: Set<string | null>, homes: Map<string | null, string>, named: Map<string, Opened[]>, tables: Opened[]}} here
+ * @param {{tables: Opened[], logs: Opened[], without: Set<string | null>, homes: Map<string | null, string | null>}} here
  */
-function besideOf(gone, older, { open, without, homes, named, tables }) {
-  const orAll = (/** @type {Opened[]} */ its, all = older) => its.length ? its : all, isUnread = !/^vicinity-log /.test(startOf(gone)) && !isWhole(gone);
-  if (isATable(gone) && (!strangeness(gone) || rowsIn(gone).length)) return orAll(tables.filter(({ file }) => isPlaces(file) === isPlaces(gone)));
-  if (strangeness(gone) && !MARK.test(startOf(gone))) return older.filter(({ name }) => rootOf(name) === rootOf(gone.name));
-  return namesIn(gone).flatMap((name) => {
-    const { log: { name: as = name, place = undefined, certain = 0 } = {}, places = new Set() } = JUDGED.get(`${gone.id} ${name}`) ?? {}, own = firstName(name);
-    const heard = tagsIn(gone).get(name) ?? [], belongs = new Set(heard.flatMap((uid) => homes.get(uid) ?? [])), isCopy = place === null && heard.length && heard.every((uid) => homes.get(uid) === own), [where, called] = isCopy ? [own, own] : [place, bareOf(as)];
-    // of no place that a log is of by its own name, if it was never judged
-    const isAt = (/** @type {Opened} */ { name, into: { place = null } }) => where === undefined ? place === null || place === bareOf(name) : place === where;
-    const alike = (named.get(own) ?? []).filter((it) => !tables.includes(it)), its = isUnread ? open.filter(({ file }) => (file.was ?? file.name) === gone.name.replace(UNFINISHED, ""))
-      : places.size > 1 ? [] : alike.filter((it) => where === null || bareOf(it.into.name ?? it.name) === called);
-    const fits = its.filter((it) => isAt(it) && (!belongs.size || !it.into.place || belongs.has(it.into.place))), fitting = isUnread && fits.length < its.length ? [] : fits;
-    const isAside = place && without.has(place) && !alike.length || certain && open.some(({ file }) => isSame(file, gone)), home = fitting.length && !isUnread ? where ?? fitting[0].into.place : null;
-    return orAll(home ? open.filter(({ into }) => into.place === home) : fitting, isAside ? [] : isUnread ? older : older.filter((it) => !tables.includes(it)));
-  });
+function besideOf(gone, { tables, logs, without, homes }) {
+  const all = [...tables, ...logs], whole = gone.name.replace(UNFINISHED, ""), isTable = isATable(gone) && (!strangeness(gone) || rowsIn(gone).length > 0);
+  const its = isTable ? tables.filter(({ file }) => isPlaces(file) === isPlaces(gone)) : whole === gone.name ? [] : all.filter(({ file }) => !file.was && file.name === whole);
+  if (its.length || isTable) return its.length ? its : all;
+  if (strangeness(gone) && !MARK.test(startOf(gone))) return all.filter(({ name }) => rootOf(name) === rootOf(gone.name));
+  if (!JUDGED.has(gone.id)) return /^vicinity-log /.test(startOf(gone)) ? logs : all;
+  const own = bareOf(gone.name), heard = heardIn(gone).map((uid) => homes.get(uid) ?? null), of = heard.length && heard.every((it) => it === uncopied(own)) ? uncopied(own) : null;
+  const judged = [...JUDGED.get(gone.id) ?? []].map((place) => place ?? of), alike = logs.filter(({ into, file }) => of && into.place === of || [into.name ?? file.name, file.name].some((it) => bareOf(it) === own));
+  const isAt = (/** @type {string | null} */ place) => (place === null ? alike : logs).some(({ into }) => into.place === place);
+  if (!alike.length && judged.length && judged.every((it) => without.has(it))) return [];
+  if (!alike.length || !judged.every(isAt) || !of && logs.some(({ file: { was } }) => was && bareOf(was) === own)) return logs;
+  const places = new Set([...judged, ...heard, ...alike.map(({ into }) => into.place ?? null)]);
+  return logs.filter((it) => alike.includes(it) || it.into.place && places.has(it.into.place));
 }

@@ -90,7 +90,7 @@ export function gathered(taken, all) {
   const names = before.flatMap((it) => [it, ...surveyedIn(it).map((name) => ({ name }))]);
   const isKnown = (/** @type {Entry} */ it) => isWhole || known.includes(it), out = taken.filter((it) => !isKnown(it) && !sameAs([it], names).length);
   const rest = taken.filter((it) => !out.includes(it)).map((it) => isKnown(it) || !isATable(it) ? it : { ...it, text: new Uint8Array(), error: NO_LOG });
-  const left = leftAs(out, (it) => `left out: ${strangeness(it)}`), said = wasEach(left).join(" ");
+  const left = leftAs(out, outAs), said = wasEach(left).join(" ");
   if (earlier && !rest.length) return [collected({ ...earlier, left: [...past, ...left] }, `${said} The collection is still here.`)];
   const tables = rest.filter(isATable), logs = rest.filter((it) => !isATable(it));
   const isJoining = !isWhole && (earlier || !logs.length) && logs.every(({ made }) => !made), isLoose = !tables.length && !(isJoining && earlier);
@@ -102,7 +102,7 @@ export function gathered(taken, all) {
     return [...isClosed ? [] : entries.filter((it) => !gone.includes(it)), ...logs.map((log) => ({ ...log, note: words.trimEnd() }))].map((it) => ({ ...it, left: over }));
   }
   const others = isJoining && !earlier ? entries : [], [unnamed, strange] = [others.filter(({ made }) => made), others.filter(isStrange)];
-  const more = [...left, ...leftAs(unnamed, "left out: what is pasted has no name"), ...leftAs(strange, `left out: ${NO_LOG}`)];
+  const more = [...left, ...leftAs(unnamed, "left out: what is pasted has no name"), ...leftAs(strange, outAs)];
   const kept = others.filter((it) => !unnamed.includes(it) && !strange.includes(it)), both = others.flatMap((it) => it.both ?? []);
   const here = isJoining && earlier || { tables: [], both, logs: kept };
   return [joined({ ...here, left: [...over, ...more] }, tables, logs, [note, ...wasEach(more)].join(" "))];
@@ -114,6 +114,12 @@ export function gathered(taken, all) {
  * @param {string | ((file: Entry) => string)} how
  */
 const leftAs = (list, how) => list.map((file) => /** @type {Left} */ ({ name: file.was ?? file.name, how: typeof how === "string" ? how : how(file), changed: file.changed }));
+
+/**
+ * What is said of a file that belongs to no collection: what it is, if that is known.
+ * @param {Entry} file
+ */
+const outAs = (file, reason = strangeness(file)) => `left out: ${reason === NO_LOG && /^, but (?:another text: )?(.*)/.exec(foundIn(startOf(file).split("\n", 1)[0])[1][1])?.[1] || reason}`;
 
 /**
  * What became of files.
@@ -218,9 +224,9 @@ export function annotate(entry, away) {
   const { given, collection, told } = entry;
   if (told) putAge(Object.assign(told.object, { both: entry.both }), entry, away);
   if (!collection || !given) return;
-  const left = [...wasEach(given.left), ...asOthers(given.logs, given.logs.map(({ name }) => name))];
+  const left = [...wasEach(given.left), ...asOthers(given.logs, given.logs.map(({ name }) => name))], isExample = given.tables[0]?.made === EXAMPLE;
   // what was summed up before isn't so any more
-  putAges(entry.collection = { ...collection, both: given.both, left, example: given.tables[0]?.made === EXAMPLE ? IS_EXAMPLE : undefined }, given, away);
+  putAges(entry.collection = { ...collection, both: given.both, left, example: isExample ? IS_EXAMPLE : undefined }, given, isExample ? [] : away);
 }
 
 /**

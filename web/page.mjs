@@ -216,7 +216,8 @@ at("example").addEventListener("click", () => open(Object.entries(SAMPLE).map(([
 const isInField = ({ target }) => target === field && !field.readOnly;
 /** @param {DragEvent} event */
 const isTyped = (event) => isInField(event) && !event.dataTransfer?.types.includes("Files");
-field.addEventListener("input", () => open([new File([field.value], PASTED)], PASTED));
+// what is typed is judged at the end of each line
+field.addEventListener("input", (event) => /^(?:insertText|delete)/.test(/** @type {InputEvent} */ (event).inputType) || open([new File([field.value], PASTED)], PASTED));
 document.addEventListener("dragover", (event) => { if (!isTyped(event)) event.preventDefault(); });
 document.addEventListener("drop", (event) => {
   if (isTyped(event)) return;

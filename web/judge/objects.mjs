@@ -85,6 +85,7 @@ export const KIND = Object.freeze({ COMPLETE: "complete", ABSENT: "absent", UNLI
  *   logs, of which only a table of places has its text
  * @property {string[]} [both] what was answered of its files, by the keys of the questions
  * @property {string} [example] that it is one, and no count
- * @property {{rows: string[], key: string}} [lost] rows of catalogues that aren't here any more, of which this one has none, and by what these are known
+ * @property {{rows: string[], key: string, names: string[]}} [lost] rows of catalogues that aren't here any more, of which this one has none, by what these are known, and
+ *   their names
  * @property {string[]} [left] what is said of files that were left out, or count as others, on which the answer rests
  */

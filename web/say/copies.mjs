@@ -157,14 +157,14 @@ export function older(files, both = []) {
 }
 
 /**
- * Tags in a catalogue that isn't here any more, of which this one has no row.
+ * Tags in tables that aren't here any more, of which the catalogue has no row.
  * @param {CollectionObject} object
  * @returns {Doubt[]}
  */
-export function withoutRow({ lost: { rows, key } = { rows: [], key: "" } }) {
-  const names = rows.map(printable), [have, they] = names[1] ? ["have", "They aren't"] : ["has", "It isn't"];
-  return !names.length ? [] : [{ mayNotCount: true, late: [], short: `${count(names.length, "tag")} of the catalogue before ${have} no row now: ${firstOf(names)}`, cure: NO_ROW,
-    words: `The catalogue that was here before has ${count(names.length, "more tag")}, of which no log tells: ${firstOf(names, "and", MOST_LISTED)}.`,
+export function withoutRow({ lost: { rows, key, names } = { rows: [], key: "", names: [] } }) {
+  const tags = rows.map(printable), [have, they] = tags[1] ? ["have", "They aren't"] : ["has", "It isn't"], [as, more] = names[1] ? ["they were", "have"] : ["it was", "has"];
+  return !tags.length ? [] : [{ mayNotCount: true, late: [], short: `${count(tags.length, "tag")} of a table that was here ${have} no row now: ${firstOf(tags)}`, cure: NO_ROW,
+    words: `${firstOf(names.map(nameOf), "and", MOST_LISTED)} as ${as} here before ${more} ${count(tags.length, "more tag")}, of which no log tells: ${firstOf(tags, "and", MOST_LISTED)}.`,
     buttons: [[`${they} expected any more`, { "data-both": `no row of ${key}` }]] }];
 }
 
