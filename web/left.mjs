@@ -1,6 +1,6 @@
 /** Which open files are older than what was here since the page was empty. */
 import { cellsOf, columnsIn, hasUids, isBroken, isPlaces, isSpreadsheet, isStrange, kindOf, startOf, stemOf, surveyedIn, uncopied, utf8Of } from "./judge/files.mjs";
-import { madeOnce } from "./judge/groups.mjs";
+import { grouped, madeOnce } from "./judge/groups.mjs";
 import { KIND } from "./judge/objects.mjs";
 import { SENTENCES } from "./say/sentences.mjs";
 
@@ -70,11 +70,8 @@ const isEqual = ({ text: one }, { text: other }) => one.length > 0 && one.length
  * @param {Entry[]} seen
  * @param {Entry[]} open
  */
-export function awayOf(seen, open) {
-  const isSame = (/** @type {Entry} */ one, /** @type {Entry} */ other) => one.id === other.id || one.changed === other.changed && isEqual(one, other);
-  const isOpen = (/** @type {Entry} */ it) => open.some((other) => isSame(other, it) && (it.name === (other.was ?? other.name) || heardIn(it).length > 0));
-  return seen.filter((it) => !isOpen(it) && !(isStrange(it) && isNeither(it)) && (!it.made || isATable(it)));
-}
+export const awayOf = (seen, open) => seen.filter((it) => (!it.made || isATable(it)) && !(isStrange(it) && isNeither(it)) && !open.some((other) =>
+  (other.id === it.id || other.changed === it.changed && isEqual(other, it)) && (it.name === (other.was ?? other.name) || heardIn(it).length > 0)));
 
 /**
  * Whether a file is no log and no table, whatever is wrong with it.
@@ -144,13 +141,24 @@ export function putAge(into, file, away, one = { into, file, name: file.was ?? f
  * @param {import("./judge/objects.mjs").Item[]} [items]
  */
 function put(open, away, items = []) {
-  const without = new Set(items.flatMap(({ state, place }) => state === "not counted" ? [place] : [])), homes = new Map(items.map(({ uid, place }) => [uid, place]));
-  const [tables, logs] = [true, false].map((is) => open.filter(({ file }) => isATable(file) === is)), here = { tables, logs, without, homes };
+  const here = hereOf(open, items), ageOf = (/** @type {Opened} */ { file }) => file.changed ?? Infinity, oldest = open.map(ageOf).reduce((one, other) => Math.min(one, other), Infinity);
   for (const { into, file: { changed } } of open) Object.assign(into, { changed, newer: undefined, than: undefined, beside: undefined });
   for (const gone of away) {
-    const { changed: newer = 0, name: than, id } = gone, isOlder = (/** @type {Opened} */ { file }) => (file.changed ?? Infinity) < newer && !isEqual(file, gone);
-    for (const { into } of open.some(isOlder) ? besideOf(gone, here).filter(isOlder) : []) Object.assign(into, { beside: (into.beside ?? 0) + id }, newer > (into.newer ?? -Infinity) && { newer, than });
+    const { changed: newer = 0, name: than, id } = gone, its = oldest < newer ? besideOf(gone, here).filter((it) => ageOf(it) < newer && !isEqual(it.file, gone)) : [];
+    for (const { into } of its) Object.assign(into, { beside: (into.beside ?? 0) + id }, newer > (into.newer ?? -Infinity) && { newer, than });
   }
+}
+
+/**
+ * What is open: tables, and logs, these also by the names by which they count, and by their places; the names of which files count by others; places
+ * that aren't counted; and where each UID belongs.
+ * @param {Opened[]} open
+ * @param {import("./judge/objects.mjs").Item[]} items
+ */
+function hereOf(open, items) {
+  const [tables, logs] = [true, false].map((is) => open.filter(({ file }) => isATable(file) === is)), names = logs.flatMap((it) => [it.into.name ?? it.file.name, it.file.name].map((name) => ({ name, it })));
+  return { tables, logs, named: grouped(names, ({ name }) => bareOf(name)), at: grouped(logs, ({ into }) => into.place ?? null), renamed: new Set(logs.flatMap(({ file: { was } }) => was ? bareOf(was) : [])),
+    without: new Set(items.flatMap(({ state, place }) => state === "not counted" ? [place] : [])), homes: new Map(items.map(({ uid, place }) => [uid, place])) };
 }
 
 /**
@@ -160,19 +168,18 @@ function put(open, away, items = []) {
  * a copy, if all that was heard in it belongs there. It may be of any if it was never judged, none of its name is here but by another, a place of
  * which it was has no log, or it was of none and that of its name isn't any more: but not while all places of which it was have none.
  * @param {Entry} gone
- * @param {{tables: Opened[], logs: Opened[], without: Set<string | null>, homes: Map<string | null, string | null>}} here
+ * @param {ReturnType<typeof hereOf>} here
  */
-function besideOf(gone, { tables, logs, without, homes }) {
+function besideOf(gone, { tables, logs, named, at, renamed, without, homes }) {
   const all = [...tables, ...logs], whole = gone.name.replace(UNFINISHED, ""), isTable = isATable(gone) && (!strangeness(gone) || rowsIn(gone).length > 0);
   const its = isTable ? tables.filter(({ file }) => isPlaces(file) === isPlaces(gone)) : whole === gone.name ? [] : all.filter(({ file }) => !file.was && file.name === whole);
   if (its.length || isTable) return its.length ? its : all;
   if (strangeness(gone) && !MARK.test(startOf(gone))) return all.filter(({ name }) => rootOf(name) === rootOf(gone.name));
   if (!JUDGED.has(gone.id)) return /^vicinity-log /.test(startOf(gone)) ? logs : all;
   const own = bareOf(gone.name), heard = heardIn(gone).map((uid) => homes.get(uid) ?? null), of = heard.length && heard.every((it) => it === uncopied(own)) ? uncopied(own) : null;
-  const judged = [...JUDGED.get(gone.id) ?? []].map((place) => place ?? of), alike = logs.filter(({ into, file }) => of && into.place === of || [into.name ?? file.name, file.name].some((it) => bareOf(it) === own));
-  const isAt = (/** @type {string | null} */ place) => (place === null ? alike : logs).some(({ into }) => into.place === place);
+  const judged = [...JUDGED.get(gone.id) ?? []].map((place) => place ?? of), alike = [...(named.get(own) ?? []).map(({ it }) => it), ...of && at.get(of) || []];
   if (!alike.length && judged.length && judged.every((it) => without.has(it))) return [];
-  if (!alike.length || !judged.every(isAt) || !of && logs.some(({ file: { was } }) => was && bareOf(was) === own)) return logs;
+  const isKnown = judged.every((it) => it === null ? alike.some(({ into }) => into.place === it) : at.has(it)) && (of || !renamed.has(own));
   const places = new Set([...judged, ...heard, ...alike.map(({ into }) => into.place ?? null)]);
-  return logs.filter((it) => alike.includes(it) || it.into.place && places.has(it.into.place));
+  return !alike.length || !isKnown ? logs : [...new Set([...alike, ...[...places].flatMap((it) => it !== null && at.get(it) || [])])];
 }
