@@ -1540,6 +1540,19 @@ def test_what_is_older_than_a_file_that_is_gone_is_asked_about(page, how):
                          "that w", headline)) == (how in OLDER_THAN_GONE)
 
 
+def test_many_logs_that_are_counted_again_do_not_freeze_the_page(page):
+    """Each that leaves is compared with those of its place, though many others are older."""
+    uids = {f"P{number}": 0xE004010000000000 + number for number in range(800)}
+    rows = "".join(f"{uid:016X},{place}\n" for place, uid in uids.items())
+    with page.never_frozen():
+        for asks, places in (1, [*uids]), (2, [*uids][::2]), (3, [*uids][::4]):
+            logs = {f"{place}.log": field(uids[place], asks=asks) for place in places}
+            tables = {"books.csv": f"uid,place\n{rows}".encode()} if asks == 1 else {}
+            dates = {name: NOON + asks * HOUR + at for at, name in enumerate(logs)}
+            drop(page, {**tables, **logs}, {"books.csv": NOON, **dates})
+            assert page.texts("h1") == ["All 800 expected items are here, and no others."]
+
+
 def test_an_answer_answers_one_question(page):
     """Of the same two logs another one may be asked; and of the same logs twice the same."""
     drop(page, {"books.csv": MORE, "A.log": field(UID_A, UID_C), "B.log": field(UID_B, UID_A)},
