@@ -13,9 +13,10 @@ import { SENTENCES } from "./say/sentences.mjs";
 export const UNFINISHED = /\.(crdownload|opdownload|download|part|partial|filepart|tmp)$/i, NO_LOG = "a log begins with 'vicinity-log'";
 /** How a log or surveys begin, in whatever coding; a tag in a log, and in surveys. */
 const MARK = /v\0?i\0?c\0?i\0?n\0?i\0?t\0?y\0?-/, HEARD_IN = /^[RH] \w{4}(\w{16})/gm, PROVED_IN = /^certain (\w{16})/gm;
-/** The rows of a catalogue, and the UIDs in logs; by the number of a file that was judged, all places of which its logs were. */
+/** The rows of a catalogue, and the UIDs in logs; by the number of a file that was judged, all places of which its logs were; and what isn't open by
+ *  its names. */
 const ROWS = /** @type {WeakMap<Entry, [string, string][]>} */ (new WeakMap()), HEARD = /** @type {WeakMap<Entry, string[]>} */ (new WeakMap());
-const JUDGED = /** @type {Map<number, Set<string | null>>} */ (new Map());
+const JUDGED = /** @type {Map<number, Set<string | null>>} */ (new Map()), AWAY = /** @type {WeakMap<Entry[], Map<string | null, Entry[]>>} */ (new WeakMap());
 /** A UID, and one somewhere in a row, how many of its cells say which, and what isn't read between digits. */
 const A_UID = /^E0[0-9A-F]{14}$/, UIDS = /E[ :-]*0(?:[ :-]*[0-9A-F]){14}/gi, MOST_OF_ROW = 2, FILLERS = /[ \t:-]/g;
 
@@ -89,9 +90,8 @@ export function putAges(object, { tables, logs }, away) {
   const byName = new Map(logs.flatMap((file) => (kindOf(file) === "surveys" ? surveyedIn(file) : [file.name]).map((name) => [name, file])));
   const ofLogs = object.logs.flatMap((into) => {
     const file = byName.get(into.name);
-    if (!file) return [];
-    if (!into.field.startsWith("refused")) judge(file, into.place !== null || into.left_over ? [into.place] : []);
-    return { into: Object.assign(into, { was: file.was }), file, name: file.was ?? into.name };
+    if (file && !into.field.startsWith("refused")) judge(file, into.place !== null || into.left_over ? [into.place] : []);
+    return file ? { into: Object.assign(into, { was: file.was }), file, name: file.was ?? into.name } : [];
   });
   put([...tables.map((file, at) => ({ into: object.files[at], file, name: file.name })), ...ofLogs], away, away.length ? object.items : []);
   object.lost = lostIn(object, away.filter(isCatalogue));
@@ -131,7 +131,8 @@ const rowsIn = (file) => madeOnce(ROWS, file, () => {
  */
 export function putAge(into, file, away, one = { into, file, name: file.was ?? file.name }) {
   if (into.kind !== KIND.REFUSED) judge(file, []);
-  put([one], away.filter((it) => kindOf(it) === "surveys" || firstName(it.was ?? it.name) === firstName(one.name)));
+  const named = madeOnce(AWAY, away, () => grouped(away, (it) => kindOf(it) === "surveys" ? null : firstName(it.was ?? it.name)));
+  put([one], [null, firstName(one.name)].flatMap((name) => named.get(name) ?? []));
 }
 
 /**
