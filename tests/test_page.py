@@ -905,7 +905,7 @@ def test_items_without_a_place_are_not_called_in_place(page):
     page.drop(**{"books.csv": books.replace(b"any", b"B")})
     page.until(".lights dd", "2 of 3 items")
     page.drop(**{"books.csv": b"uid,place\nE0040100000000A1,A\nE0040100000000B2,B\n"})
-    page.until("h1", "but 1 tag of a table that was here has no row now: B.")
+    page.until("h1", "but 1 item of a table that was here has no row now: B.")
     page.press(".doubts button")
     page.until(".banner.read h1", "All 2 expected items are here, and no others, if "
                "the readers of A and B heard to the end.")

@@ -282,6 +282,13 @@ def test_what_a_log_has_on_its_list_and_rules_out(page, catalogue, listed, words
     assert (words in doubts) if words else "rules out" not in doubts
 
 
+def test_a_carriage_return_in_a_comment_begins_no_line(page):
+    """And so lists no UID."""
+    log = field(UID_A) + b"# old:\rU E0040100000000C3\n"
+    drop(page, {"books.csv": BOTH, "A.log": log, "B.log": field(UID_B)})
+    until_green(page)
+
+
 def test_what_an_unfinished_log_has_on_its_list_may_be_there(page):
     """Its first slots rule out what ends in 2, and no more."""
     log = log_of("I16 S RA S UB") + b"U E0040100000000C3\n"
@@ -399,7 +406,8 @@ def test_places_that_are_called_like_copies_are_none(page):
     assert look(page) == "yes"
 
 
-@pytest.mark.parametrize("name", ["place\u00a0", "Places", "_place_", "pl\u0430ce"])
+@pytest.mark.parametrize("name", ["place\u00a0", "Places", "_place_", "pl\u0430ce", "pla ce",
+                                  "p.l.a.c.e", "pl\u00adace", "place\u200bs"])
 def test_one_log_and_a_column_that_is_nearly_called_place(page, name):
     """The item may be of another place: whoever wrote that column meant to say it."""
     drop(page, {"books.csv": books((UID_A, ",B"), head=f"uid,title,{name}"), "A.log": field(UID_A)})
@@ -786,7 +794,7 @@ def test_a_catalogue_is_not_replaced_without_a_word(page, how):
     page.until(".note", said)
     assert page.texts(".note") == [said]
     assert page.run(TOLD) == f"{said} {page.texts('h1')[0]}"
-    asked = "; 1 tag of a table that was here has no row now: Walden \u00B7 B;"
+    asked = "; 1 item of a table that was here has no row now: Walden \u00B7 B;"
     assert asked in page.texts("h1")[0]
     # once it is heard it is said as what it is
     drop(page, {"B.log": field(UID_B)})
@@ -1215,7 +1223,7 @@ def test_an_older_catalogue_is_asked_about(page, tmp_path):
     for name, early in ("books.csv", 30 * DAY), ("b.csv", 20 * DAY):
         drop(page, {name: BOTH}, {name: NOON - early})
         assert page.texts("h1") == [
-            "All 2 expected items are in some log; but 1 tag of a table that was here has no row "
+            "All 2 expected items are in some log; but 1 item of a table that was here has no row "
             f"now: Kim \u00B7 A and {name} is older than one that was here."]
         assert look(page) == "read" and not page.texts(".light.yes")
     pressed(page, "It isn't expected any more")
@@ -1224,7 +1232,7 @@ def test_an_older_catalogue_is_asked_about(page, tmp_path):
                     r"\d\d:\d6, which isn't here any more\.$", words)
     page.press(".doubts button")
     page.until(".banner.yes h1", "All 2 expected items are here, and no others.")
-    said = ["books.csv as it was here before has 1 more tag, of which no log tells: "
+    said = ["books.csv as it was here before has 1 more item, of which no log tells: "
             "Kim \u00B7 A. It was answered here: 'It isn't expected any more'.",
             f"{words} It was answered here: 'The older one counts'."]
     assert page.texts(".note") == said
@@ -1257,9 +1265,9 @@ def test_nothing_is_complete_by_a_row_that_is_gone(page, how, tmp_path):
     drop(page, {name: COMPLETE[name] for name in ("A.log", "B.log")},
          {"A.log": NOON + HOUR, "B.log": NOON + HOUR})
     assert page.texts("h1") == [
-        "All 2 expected items are in some log; but 1 tag of a table that was here has no row now: "
+        "All 2 expected items are in some log; but 1 item of a table that was here has no row now: "
         "Kim \u00B7 A."]
-    words = "books.csv as it was here before has 1 more tag, of which no log tells: Kim \u00B7 A."
+    words = "books.csv as it was here before has 1 more item, of which no log tells: Kim \u00B7 A."
     assert look(page) == "read" and page.texts(".doubts b") == [words]
     page.media("print")
     assert "This is no result yet" in page.said() and not page.texts(".signed")
@@ -1276,7 +1284,7 @@ def test_a_row_is_known_however_its_uid_is_written(page, spelled):
     drop(page, {**COMPLETE, "books.csv": BOTH + f"{spelled},Kim,A\n".encode()})
     page.until("h1", "1 item missing (Kim, of A)")
     drop(page, {"books.csv": BOTH})
-    page.until("h1", "but 1 tag of a table that was here has no row now: Kim \u00B7 A.")
+    page.until("h1", "but 1 item of a table that was here has no row now: Kim \u00B7 A.")
 
 
 # Catalogues with a row of which the next has none, in which more than one UID or none is read.
@@ -1297,9 +1305,31 @@ def test_a_row_is_known_by_its_own_cell(page, how):
     drop(page, {**COMPLETE, "books.csv": ROWS_OF_C[how]}, {name: NOON for name in COMPLETE})
     assert look(page) != "yes"
     drop(page, {"books.csv": BOTH}, {"books.csv": NOON + HOUR})
-    page.until("h1", "but 1 tag of a table that was here has no row now: ")
+    page.until("h1", "but 1 item of a table that was here has no row now: ")
     drop(page, {"books.csv": BOTH + b"E0040100000000C3,Kim,A\n"}, {"books.csv": NOON + 2 * HOUR})
     assert page.texts("h1") == ["1 item missing (Kim, of A)."]
+
+
+# Rows of items without a tag, and those of a later catalogue; and what is said of these.
+TAGLESS = {
+    "gone": (["none,Map,A"], [], "1 item of a table that was here has no row now: Map \u00B7 A."),
+    "one of two": (["none,Map,A", "NONE,Map,A"], ["none,Map,A"],
+                   "1 item of a table that was here has no row now: Map \u00B7 A."),
+    "tagged": (["none,Map,A"], [f"{UID_B:016X},Map,A"], ""),
+    "in other lines": (["none,Map,A", "none,Atlas,A"], ["none,Atlas,A", "none,Map,A"], "")}
+
+
+@pytest.mark.parametrize("how", TAGLESS)
+def test_a_row_of_an_item_without_a_tag_is_not_forgotten(page, how):
+    """It is known by its first cells."""
+    before, later, words = TAGLESS[how]
+    rows = [f"{UID_A:016X},Emma,A"]
+    for number, more in enumerate((before, later)):
+        text = "".join(f"{row}\n" for row in ["uid,title,place", *rows, *more])
+        drop(page, {"books.csv": text.encode(), "A.log": field(UID_A)},
+             {"books.csv": NOON + number, "A.log": NOON})
+    (headline,) = page.texts("h1")
+    assert headline.endswith(words) if words else "no row now" not in headline
 
 
 def test_a_row_that_was_here_again_is_asked_about_again(page):
@@ -1510,6 +1540,14 @@ OLDER_THAN_GONE = {
     "not whole, of a reader that calls all its logs alike": (
         ({"books.csv": BOTH, **OLD_A}, 0), ({"r2.log.part": field()}, 1),
         ({"r2.log": field(UID_B)}, 2), "Count it as B"),
+    "of a place where an item without a fixed one was then": (
+        ({"books.csv": books((UID_A, ",any"), (UID_B, ",A"), (UID_C, ",B")),
+          "A.log": field(UID_A, UID_B)}, 1), ({"B.log": field(UID_A, UID_C)}, 2),
+        ({"B.log": field(UID_C)}, 3)),
+    "judged by itself, where nothing answered": (
+        ({"r1.log": field()}, 2), ({"r1.log": field(UID_B)}, 3),
+        ({"r0.log": field(UID_A)}, 1),
+        ({"books.csv": BOTH, "p.csv": b"place,log\nA,r0.log\nB,r1.log\n"}, 1)),
     "a catalogue in UTF-16 without its mark": (
         (COMPLETE, 0), ({"export.csv": BOTH.decode().encode("utf-16-le")}, 1)),
     "a table of places, of which none is here": (
@@ -1522,6 +1560,10 @@ NO_OLDER = {
                         "Leave out shelf.log", (OLD_A, 1)),
     "as a copy": ((COMPLETE, 0), ({"B.log": field(UID_B, asks=2)}, 1),
                   ({"A (1).log": field(UID_A, asks=2)}, 2), "Only A (1).log"),
+    "refused at first": ((COMPLETE, 0), ({"A.log": field(UID_A) + b"S\n"}, 1),
+                         ({"A.log": field(UID_A, asks=2)}, 2)),
+    "by itself at first": (({**OLD_B}, 0), (OLD_A, 1), ({"A.log": field(UID_A, asks=2)}, 2),
+                           ({"books.csv": BOTH}, 3)),
     "not whole at first": ((COMPLETE, 0), ({"A.log.part": b"vicinity-log 3"}, 1), (OLD_A, 2)),
     "no log at all": ((COMPLETE, 0), ({"photo.jpg": b"\xff\xd8\xff\xe0\x00"}, 1))}
 

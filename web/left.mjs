@@ -12,13 +12,13 @@ import { SENTENCES } from "./say/sentences.mjs";
 /** How the name of a file ends while it is downloaded, or written; and why a text is no log. */
 export const UNFINISHED = /\.(crdownload|opdownload|download|part|partial|filepart|tmp)$/i, NO_LOG = "a log begins with 'vicinity-log'";
 /** How a log or surveys begin, in whatever coding; a tag in a log, and in surveys. */
-const MARK = /v\0?i\0?c\0?i\0?n\0?i\0?t\0?y\0?-/, HEARD_IN = /^[RH] \w{4}(\w{16})/gm, PROVED_IN = /^certain (\w{16})/gm;
+const MARK = /v\0?i\0?c\0?i\0?n\0?i\0?t\0?y\0?-/, HEARD_IN = /(?:^|\n)[RH] \w{4}(\w{16})/g, PROVED_IN = /(?:^|\n)certain (\w{16})/g;
 /** The rows of a catalogue, and the UIDs in logs; by the number of a file that was judged, all places of which its logs were; and what isn't open by
  *  its names. */
 const ROWS = /** @type {WeakMap<Entry, [string, string][]>} */ (new WeakMap()), HEARD = /** @type {WeakMap<Entry, string[]>} */ (new WeakMap());
 const JUDGED = /** @type {Map<number, Set<string | null>>} */ (new Map()), AWAY = /** @type {WeakMap<Entry[], Map<string | null, Entry[]>>} */ (new WeakMap());
-/** A UID, and one somewhere in a row, how many of its cells say which, and what isn't read between digits. */
-const A_UID = /^E0[0-9A-F]{14}$/, UIDS = /E[ :-]*0(?:[ :-]*[0-9A-F]){14}/gi, MOST_OF_ROW = 2, FILLERS = /[ \t:-]/g;
+/** A UID, and one somewhere in a row, how many of its cells say which, what isn't read between digits, and the key of one without; what knows no item. */
+const A_UID = /^E0[0-9A-F]{14}$/, UIDS = /E[ :-]*0(?:[ :-]*[0-9A-F]){14}/gi, MOST_OF_ROW = 2, FILLERS = /[ \t:-]/g, WITHOUT = "none ", NO_ITEMS = { items: [], unexpected: [], logs: [] };
 
 /** @param {Entry} entry */
 export const isATable = (entry) => kindOf(entry) === "table";
@@ -93,24 +93,28 @@ export function putAges(object, { tables, logs }, away) {
     if (file && !into.field.startsWith("refused")) judge(file, into.place !== null || into.left_over ? [into.place] : []);
     return file ? { into: Object.assign(into, { was: file.was }), file, name: file.was ?? into.name } : [];
   });
-  put([...tables.map((file, at) => ({ into: object.files[at], file, name: file.name })), ...ofLogs], away, away.length ? object.items : []);
-  object.lost = lostIn(object, away.filter(isCatalogue));
+  put([...tables.map((file, at) => ({ into: object.files[at], file, name: file.name })), ...ofLogs], away, object);
+  object.lost = lostIn(object, tables.filter(isCatalogue), away.filter(isCatalogue));
 }
 
 /**
- * Rows of catalogues that aren't here any more, whose UID no row of this one has, and no log; each by its UID, and by what these catalogues are
- * known.
+ * Rows of catalogues that aren't here any more, of whose UID there is no row now, and no log tells; of items without a tag, where fewer rows are
+ * called like that; and by what these catalogues are known.
  * @param {CollectionObject} object
+ * @param {Entry[]} now
  * @param {Entry[]} before
  */
-function lostIn({ items, unexpected }, before) {
-  const known = new Set((before.length ? [...items, ...unexpected] : []).map(({ uid }) => uid));
-  const files = before.map((file) => ({ file, its: rowsIn(file).filter(([uid]) => !known.has(uid)) })).filter(({ its }) => its.length), rows = new Map(files.flatMap(({ its }) => its));
+function lostIn({ items, unexpected }, now, before) {
+  const known = new Set((before.length ? [...items, ...unexpected] : []).map(({ uid }) => uid)), called = (/** @type {Entry[]} */ all) => grouped(all.flatMap(rowsIn), ([, words]) => words);
+  const isBare = (/** @type {string[]} */ [uid]) => uid.startsWith(WITHOUT), bare = before.filter((file) => rowsIn(file).some(isBare)), left = called(bare.length ? now : []);
+  const files = before.map((file) => ({ file, then: called(bare.filter((it) => it === file)) })).map(({ file, then }) => ({ file, its: rowsIn(file).filter(([uid, words]) =>
+    isBare([uid]) ? (left.get(words) ?? []).length < (then.get(words) ?? []).length : !known.has(uid)) })).filter(({ its }) => its.length), rows = new Map(files.flatMap(({ its }) => its));
   return { rows: [...rows.values()], key: `${files.map(({ file }) => file.id)}: ${[...rows.keys()]}`, names: [...new Set(files.map(({ file }) => file.name))] };
 }
 
 /**
- * The rows of a catalogue by their UIDs, each in a few of its cells; where it isn't known which cell is the UID, by all in the row.
+ * The rows of a catalogue by their UIDs, each in a few of its cells, by which those without a tag are known; where it isn't known which cell is
+ * the UID, by all in the row.
  * @param {Entry} file
  * @returns {[string, string][]}
  */
@@ -119,7 +123,7 @@ const rowsIn = (file) => madeOnce(ROWS, file, () => {
   return lines.flatMap((line) => {
     const cells = cellsOf(line, separator || ","), own = (cells[at] ?? "").replace(FILLERS, "").toUpperCase(), words = cells.filter((it, column) => it && column !== at).slice(0, MOST_OF_ROW).join(" \u00B7 "),
       uids = A_UID.test(own) && cells.length === heads.length && !/\r|(?:^|[^0-9A-F])E0[0-9A-F]{14}(?![0-9A-F])/i.test(cells.filter((_, column) => column !== at).join("\n")) ? [own] : Array.from(line.split(/[,;\t]/).join("\n").matchAll(UIDS), ([it]) => it.replace(FILLERS, "").toUpperCase());
-    return uids.map((uid) => /** @type {[string, string]} */ ([uid, words || uid]));
+    return (uids.length || own !== "NONE" ? uids : [WITHOUT + words]).map((uid) => /** @type {[string, string]} */ ([uid, words || uid]));
   });
 });
 
@@ -139,48 +143,51 @@ export function putAge(into, file, away, one = { into, file, name: file.was ?? f
  * Each file that isn't here any more is asked about beside open ones that are older.
  * @param {Opened[]} open
  * @param {Entry[]} away
- * @param {import("./judge/objects.mjs").Item[]} [items]
+ * @param {Pick<CollectionObject, "items" | "unexpected" | "logs">} [object]
  */
-function put(open, away, items = []) {
-  const here = hereOf(open, items), ageOf = (/** @type {Opened} */ { file }) => file.changed ?? Infinity, oldest = open.map(ageOf).reduce((one, other) => Math.min(one, other), Infinity);
+function put(open, away, object = NO_ITEMS) {
+  const ageOf = (/** @type {Entry} */ { changed = Infinity }) => changed, oldest = open.map(({ file }) => ageOf(file)).reduce((one, other) => Math.min(one, other), Infinity);
+  const newer = away.filter(({ changed = 0 }) => changed > oldest), here = hereOf(open, newer.length ? object : NO_ITEMS);
   for (const { into, file: { changed } } of open) Object.assign(into, { changed, newer: undefined, than: undefined, beside: undefined });
-  for (const gone of away) {
-    const { changed: newer = 0, name: than, id } = gone, its = oldest < newer ? besideOf(gone, here).filter((it) => ageOf(it) < newer && !isEqual(it.file, gone)) : [];
-    for (const { into } of its) Object.assign(into, { beside: (into.beside ?? 0) + id }, newer > (into.newer ?? -Infinity) && { newer, than });
+  for (const gone of newer) for (const { into, file } of besideOf(gone, here)) {
+    if (ageOf(file) < ageOf(gone) && !isEqual(file, gone)) Object.assign(into, { beside: (into.beside ?? 0) + gone.id }, ageOf(gone) > (into.newer ?? 0) && { newer: gone.changed, than: gone.name });
   }
 }
 
 /**
- * What is open: tables, and logs, these also by the names by which they count, and by their places; the names of which files count by others; places
- * that aren't counted; and where each UID belongs.
+ * What is open: tables, and logs, these also by the names by which they count, by their places, and of an item those that prove it; the names of
+ * which files count by others; places that aren't counted; and what is known by its UID.
  * @param {Opened[]} open
- * @param {import("./judge/objects.mjs").Item[]} items
+ * @param {Pick<CollectionObject, "items" | "unexpected" | "logs">} object
  */
-function hereOf(open, items) {
+function hereOf(open, { items, unexpected, logs: all }) {
   const [tables, logs] = [true, false].map((is) => open.filter(({ file }) => isATable(file) === is)), names = logs.flatMap((it) => [it.into.name ?? it.file.name, it.file.name].map((name) => ({ name, it })));
-  return { tables, logs, named: grouped(names, ({ name }) => bareOf(name)), at: grouped(logs, ({ into }) => into.place ?? null), renamed: new Set(logs.flatMap(({ file: { was } }) => was ? bareOf(was) : [])),
-    without: new Set(items.flatMap(({ state, place }) => state === "not counted" ? [place] : [])), homes: new Map(items.map(({ uid, place }) => [uid, place])) };
+  const byInto = new Map(logs.map((it) => [/** @type {object} */ (it.into), it])), known = new Map([...items, ...unexpected].map((it) => [it.uid, { place: "place" in it ? it.place : null, its: it.certain_in }]));
+  return { tables, logs, known, named: grouped(names, ({ name }) => bareOf(name)), at: grouped(logs, ({ into }) => into.place ?? null), renamed: new Set(logs.flatMap(({ file: { was } }) => was ? bareOf(was) : [])),
+    without: new Set(items.flatMap(({ state, place }) => state === "not counted" ? [place] : [])), proving: (/** @type {string} */ uid) => (known.get(uid)?.its ?? []).flatMap((it) => byInto.get(all[it]) ?? []) };
 }
 
 /**
  * Beside which files. A table is compared with those of its kind, if one is here, and otherwise with all; an unfinished file with that which it
  * will be; what has no mark of a log with what has its name. A log is compared with those of its name, and of each place of which it may be: of
- * which these are, of which it was judged, and where what was heard in it belongs. One of no place is of the one like which it is called, also as
- * a copy, if all that was heard in it belongs there. It may be of any if it was never judged, none of its name is here but by another, a place of
- * which it was has no log, or it was of none and that of its name isn't any more: but not while all places of which it was have none.
+ * which these are, of which it was judged, and where what was heard in it belongs; and with those that prove what those of its name don't. One of
+ * no place is of the one like which it is called, also as a copy, if all that was heard in it belongs there. It may be of any if none of its name
+ * is here but by another, a place of which it was has no log, or it was of none and that of its name isn't any more: but not while all places of
+ * which it was have none. So may one that wasn't judged beside others, or without places, if those of its name don't prove all that was heard.
  * @param {Entry} gone
  * @param {ReturnType<typeof hereOf>} here
  */
-function besideOf(gone, { tables, logs, named, at, renamed, without, homes }) {
+function besideOf(gone, { tables, logs, known, named, at, renamed, without, proving }) {
   const all = [...tables, ...logs], whole = gone.name.replace(UNFINISHED, ""), isTable = isATable(gone) && (!strangeness(gone) || rowsIn(gone).length > 0);
   const its = isTable ? tables.filter(({ file }) => isPlaces(file) === isPlaces(gone)) : whole === gone.name ? [] : all.filter(({ file }) => !file.was && file.name === whole);
   if (its.length || isTable) return its.length ? its : all;
   if (strangeness(gone) && !MARK.test(startOf(gone))) return all.filter(({ name }) => rootOf(name) === rootOf(gone.name));
-  if (!JUDGED.has(gone.id)) return /^vicinity-log /.test(startOf(gone)) ? logs : all;
-  const own = bareOf(gone.name), heard = heardIn(gone).map((uid) => homes.get(uid) ?? null), of = heard.length && heard.every((it) => it === uncopied(own)) ? uncopied(own) : null;
-  const judged = [...JUDGED.get(gone.id) ?? []].map((place) => place ?? of), alike = [...(named.get(own) ?? []).map(({ it }) => it), ...of && at.get(of) || []];
-  if (!alike.length && judged.length && judged.every((it) => without.has(it))) return [];
-  const isKnown = judged.every((it) => it === null ? alike.some(({ into }) => into.place === it) : at.has(it)) && (of || !renamed.has(own));
-  const places = new Set([...judged, ...heard, ...alike.map(({ into }) => into.place ?? null)]);
-  return !alike.length || !isKnown ? logs : [...new Set([...alike, ...[...places].flatMap((it) => it !== null && at.get(it) || [])])];
+  if (!JUDGED.has(gone.id) && !/^vicinity-log /.test(startOf(gone))) return all;
+  const own = bareOf(gone.name), heard = heardIn(gone), homes = heard.map((uid) => known.get(uid)?.place ?? null), of = heard.length && homes.every((it) => it === uncopied(own)) ? uncopied(own) : null;
+  const judged = [...JUDGED.get(gone.id) ?? []].map((place) => place ?? of), alike = new Set([...(named.get(own) ?? []).map(({ it }) => it), ...of && at.get(of) || []]);
+  if (!alike.size && judged.length && judged.every((it) => without.has(it))) return [];
+  const others = heard.map(proving).filter((its) => !its.some((it) => alike.has(it))), isPlaced = judged.every((it) => it === null ? [...alike].some(({ into }) => into.place === it) : at.has(it));
+  if (!alike.size || !isPlaced || !of && renamed.has(own) || !judged.length && (!heard.length || others.length)) return logs;
+  const places = [...judged, ...homes, ...[...alike].map(({ into }) => into.place ?? null)];
+  return [...new Set([...alike, ...others.flat(), ...places.flatMap((it) => it !== null && at.get(it) || [])])];
 }

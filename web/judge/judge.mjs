@@ -12,7 +12,7 @@ import { LF } from "./log.mjs";
 /** How much of a line is kept that was refused. */
 const MOST_QUOTED = 160, DECODED = new TextDecoder("utf-8", { ignoreBOM: true }), REFUSED = /^refused at line (\d+) of ([^]*): (\w+)\n$/;
 /** A line of a log's own list. */
-const LISTED = /^U (\w{16})/gm;
+const LISTED = /(?:^|\n)U (\w{16})/g;
 
 /** @typedef {{name?: string, line?: number, fault?: string, quoted?: string, files: string[]}} Refused a line for which a collection has no
  *   answer, or tables that are none of its files; with the files that can be left out */

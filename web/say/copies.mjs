@@ -18,15 +18,12 @@ import { count, dated, listing, printable } from "./words.mjs";
 
 /** Of how many logs each has a button, by how much files of one count may differ, in ms, and how many tags are named that two logs prove. */
 const MOST_LEFT = 4, HALF_A_DAY = 43_200_000, MOST_TAGS = 5, MOVED = "What moved in between isn't seen: count there again, unless the dates are only those of copies.";
-const COUNTS = "If the newer one counts, open it once more.", ALL_COUNT = "If the newer ones count, open them once more.";
-const IF_THEIRS = "If these aren't their logs, write a table of places, with the columns place and log.";
+const COUNTS = "If the newer one counts, open it once more.", ALL_COUNT = "If the newer ones count, open them once more.", IF_THEIRS = "If these aren't their logs, write a table of places, with the columns place and log.";
 const ONE_FILE = "One is a copy: leave out that of the shelf that wasn't counted, and count there.", OLDER = "may be an older log of the same shelf: leave out the older.";
 const OVERLAP = "The fields of two readers may overlap. If not, a log is an older one, or items were carried in between: count these fields again.";
-const WHICH = "Of one field only one log counts: which?";
-/** Rows that are gone. */
+/** Rows that are gone; and a page that came by http is given no sums. */
 const NO_ROW = "What is missing stays missing without its row: open the catalogue with that again, unless nobody expects it here.";
-/** A page that came by http is given no sums. */
-const NO_SUMS = "One may be a copy of another: by http the browser can't compare them. Open this page as a file, or by https, and there all files.";
+const WHICH = "Of one field only one log counts: which?", NO_SUMS = "One may be a copy of another: by http the browser can't compare them. Open this page as a file, or by https, and there all files.";
 
 /**
  * Doubts of which some are answered: those that aren't, and what was answered of the others.
@@ -157,14 +154,14 @@ export function older(files, both = []) {
 }
 
 /**
- * Tags in tables that aren't here any more, of which the catalogue has no row.
+ * Items of tables that aren't here any more, of which the catalogue has no row.
  * @param {CollectionObject} object
  * @returns {Doubt[]}
  */
 export function withoutRow({ lost: { rows, key, names } = { rows: [], key: "", names: [] } }) {
-  const tags = rows.map(printable), [have, they] = tags[1] ? ["have", "They aren't"] : ["has", "It isn't"], [as, more] = names[1] ? ["they were", "have"] : ["it was", "has"];
-  return !tags.length ? [] : [{ mayNotCount: true, late: [], short: `${count(tags.length, "tag")} of a table that was here ${have} no row now: ${firstOf(tags)}`, cure: NO_ROW,
-    words: `${firstOf(names.map(nameOf), "and", MOST_LISTED)} as ${as} here before ${more} ${count(tags.length, "more tag")}, of which no log tells: ${firstOf(tags, "and", MOST_LISTED)}.`,
+  const gone = rows.map(printable), [have, they] = gone[1] ? ["have", "They aren't"] : ["has", "It isn't"], [as, more] = names[1] ? ["they were", "have"] : ["it was", "has"];
+  return !gone.length ? [] : [{ mayNotCount: true, late: [], short: `${count(gone.length, "item")} of a table that was here ${have} no row now: ${firstOf(gone)}`, cure: NO_ROW,
+    words: `${firstOf(names.map(nameOf), "and", MOST_LISTED)} as ${as} here before ${more} ${count(gone.length, "more item")}, of which no log tells: ${firstOf(gone, "and", MOST_LISTED)}.`,
     buttons: [[`${they} expected any more`, { "data-both": `no row of ${key}` }]] }];
 }
 

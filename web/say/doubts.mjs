@@ -127,7 +127,7 @@ function withoutAnswer({ logs, items }, shelves) {
  */
 function notAsked({ logs, columns, items, status }, { isAsked }) {
   const { like, meant, noPlaces } = SENTENCES.catalogues, isLike = new RegExp(like, "i"), names = logs.map(({ name }) => stemOf(name));
-  const found = isAsked ? [] : columns.map((head, at) => ({ head, like: isLike.exec(head.normalize("NFKC")), cells: new Set(items.map((it) => it.cells?.[at])) }));
+  const found = isAsked ? [] : columns.map((head, at) => ({ head, like: isLike.exec(head.normalize("NFKC").replace(/[^\p{L}\p{N}]+/gu, "")), cells: new Set(items.map((it) => it.cells?.[at])) }));
   const meaning = found.filter(({ like, cells }) => like || names.length && names.every((it) => cells.has(it)));
   const isNear = meaning.some(({ like, cells }) => like?.[1] || cells.size > 1), heads = meaning.map(({ head }) => `'${printable(head)}'`);
   // one field needs no places, if all is there, and no column is called almost so, or has several places

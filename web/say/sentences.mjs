@@ -42,8 +42,7 @@ export const SENTENCES = {
     "Survey": ["this isn't a survey as vicinity survey writes it: it was cut off or changed", "Make the survey again, or copy its file again."],
     "utf16": ["it seems to be UTF-16, but cut off, changed, or without its mark", "Copy the file again, or save the table as 'CSV UTF-8'."],
     "unnamed": ["it is an item already: the names of the columns are missing", "Write a line above it with a name for each column, as uid,title,place. Overwrite nothing."],
-    "turned": ["the bytes of the UID are in the opposite order, with E0 last", "Turn the bytes of each UID round, so that E0 comes first: A1000000000104E0 is E0040100000000A1."]
-  },
+    "turned": ["the bytes of the UID are in the opposite order, with E0 last", "Turn the bytes of each UID round, so that E0 comes first: A1000000000104E0 is E0040100000000A1."] },
   "first": { "\u0000": ["it seems to be UTF-16", "Save it as ASCII or UTF-8."], "\uFEFF": ["it begins with a byte order mark", "Save it as UTF-8 without one."], "\r": ["its lines end with CR alone", "Save it with LF, or CR LF, at the end of each line: editors call these Unix and Windows."] },
   "aLog": ["^(?:vicinity-(?!survey )|[TRHU] [0-9A-F]|[SCDNF]$|#)", "A log is text from the reader's software; its first line begins with 'vicinity-log'."],
   "files": {
@@ -60,8 +59,7 @@ export const SENTENCES = {
     "json": ["^\\s*(?:\\{\\s*[\"}]|\\[\\s*[{\"\\[]|[{\\[]\\s*$)", ", but JSON, which programs exchange", "Open the log of which it was written, or a table (CSV)."],
     "turned": ["^\\W{0,3}(?!E0)(?:[0-9A-F]{2}[ :.-]?){7}E0\\W{0,3}$", ", but a list of tag numbers whose bytes are in the opposite order, with E0 last",
       "If it is what should be here: turn the bytes of each number round, so that E0 comes first, write uid as the first line, and open it with the logs."],
-    "list": ["^\\W{0,3}(?:uid|(?:0x)?E0(?:[ :.-]?[0-9A-F]{2}){7})\\W{0,3}$", ", but a list of tag numbers", "If it is what should be here: write uid as its first line, and open it together with the logs.",
-      "By itself it can't show whether a tag was missed: it says which tags were read, not what was asked."],
+    "list": ["^\\W{0,3}(?:uid|(?:0x)?E0(?:[ :.-]?[0-9A-F]{2}){7})\\W{0,3}$", ", but a list of tag numbers", "If it is what should be here: write uid as its first line, and open it together with the logs.", "By itself it can't show whether a tag was missed: it says which tags were read, not what was asked."],
     "binary": ["[\u0000\uFFFD]", ": it isn't text in UTF-8", "If it is text, in UTF-16 for example, save it as ASCII or UTF-8."],
     "read": ["^(?=.*\\d\\d:\\d\\d).*E0(?:[ :.-]?[0-9A-F]{2}){7}", ", but what a reader has read, times and tag numbers", "It doesn't say what was asked, so it can't show whether a tag was missed, and counting again gives the same: ask whoever maintains the reader to have it write logs (docs/READERS.md of vicinity says how)."],
     "table": ["[,;\\t|]", "", "If it is a table of what should be here: name the column of tag numbers 'uid' in its first row, and open it with the logs."],

@@ -47,10 +47,13 @@ fn check(text: &[u8]) -> Result<(Vec<u8>, u8), Box<dyn Error>> {
 
 /// What the program writes, and its status.
 fn reconcile(files: &[OsString]) -> Result<(Vec<u8>, u8), Box<dyn Error>> {
-    let names: Vec<_> = files.iter().map(|file| file.to_string_lossy()).collect();
+    let names = files
+        .iter()
+        .map(|file| file.to_str().ok_or("usage: a name of a file isn't UTF-8"))
+        .collect::<Result<Vec<_>, _>>()?;
     let texts = files.iter().map(std::fs::read).collect::<Result<Vec<_>, _>>()?;
     let given: Vec<(&str, &[u8])> =
-        names.iter().zip(&texts).map(|(name, text)| (&**name, &text[..])).collect();
+        names.into_iter().zip(&texts).map(|(name, text)| (name, &text[..])).collect();
     let told = vicinity::run(Command::Reconcile, &given)?;
     Ok((told.text, told.status))
 }
