@@ -335,6 +335,15 @@ def test_an_example_of_a_log_that_is_not_there(example, language, texts):
     assert example(language, LIBRARIES[0]).run(*files, files[0].parent / "nowhere")[::2] == (b"", 4)
 
 
+@pytest.mark.parametrize("language", ["cpp", "go", "rust"])
+def test_an_example_of_a_name_that_is_not_utf_8(example, language, texts, tmp_path):
+    """No answer could name that log."""
+    texts(list="vicinity-log 1\n")
+    name = os.fsdecode(b"x\xff.log")
+    (tmp_path / name).write_text(heard(B))
+    assert example(language, LIBRARIES[0]).run("list", name, cwd=tmp_path)[::2] == (b"", 4)
+
+
 # ---- the libraries' own tests
 
 def test_go_library(release):

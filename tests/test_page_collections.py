@@ -2505,7 +2505,7 @@ def test_a_copy_of_a_log_is_older_than_one_that_was_closed(page):
     closed = "What was here (B.log) was closed."
     assert page.texts(".note") == [closed]
     page.press(".doubts button")
-    page.until("h1", "the log of B is older than one that was here.")
+    page.until("h1", "the logs of A and B are older than those that were here.")
     assert closed in page.texts(".note") and look(page) == "read"
 
 
