@@ -1310,26 +1310,37 @@ def test_a_row_is_known_by_its_own_cell(page, how):
     assert page.texts("h1") == ["1 item missing (Kim, of A)."]
 
 
-# Rows of items without a tag, and those of a later catalogue; and what is said of these.
+# A catalogue with rows of items that have no tag, behind that of Emma, and a later one; and what is
+# said of these.
+HEAD, EMMA, NO_ROW = "uid,title,place", f"{UID_A:016X},Emma,A", "has no row now: Map \u00B7 A."
 TAGLESS = {
-    "gone": (["none,Map,A"], [], "1 item of a table that was here has no row now: Map \u00B7 A."),
-    "one of two": (["none,Map,A", "NONE,Map,A"], ["none,Map,A"],
-                   "1 item of a table that was here has no row now: Map \u00B7 A."),
-    "tagged": (["none,Map,A"], [f"{UID_B:016X},Map,A"], ""),
-    "in other lines": (["none,Map,A", "none,Atlas,A"], ["none,Atlas,A", "none,Map,A"], "")}
+    "gone": ([HEAD, EMMA, "none,Map,A"], [HEAD, EMMA], NO_ROW),
+    "one of two": ([HEAD, EMMA, "none,Map,A", "NONE,Map,A"], [HEAD, EMMA, "none,Map,A"], NO_ROW),
+    "of which no UID was known": ([HEAD, EMMA, ",Map,A"], [HEAD, EMMA], NO_ROW),
+    "with a UID that is none": ([HEAD, EMMA, "E0040100,Map,A"], [HEAD, EMMA], NO_ROW),
+    "below a title": (["Books,,", HEAD, EMMA, "none,Map,A"], [HEAD, EMMA], NO_ROW),
+    "below a wrong heading": (["UID Nr,title,place", EMMA, ",Map,A"], [HEAD, EMMA], NO_ROW),
+    "of lines that end with CR": ([f"{HEAD}\r{EMMA}\rnone,Map,A\r"], [HEAD, EMMA], NO_ROW),
+    "beside a new one called alike": (
+        [f"{HEAD},number", f"{EMMA},1", "none,Map,A,7"],
+        [f"{HEAD},number", f"{EMMA},1", f"{UID_B:016X},Map,A,9"], NO_ROW),
+    "tagged": ([HEAD, EMMA, "none,Map,A"], [HEAD, EMMA, f"{UID_B:016X},Map,A"], ""),
+    "tagged, where no UID was known": (
+        [HEAD, EMMA, ",Map,A"], [HEAD, EMMA, f"{UID_B:016X},Map,A"], ""),
+    "in other lines": ([HEAD, EMMA, "none,Map,A", "none,Atlas,A"],
+                       [HEAD, "none,Atlas,A", "none,Map,A", EMMA], "")}
 
 
 @pytest.mark.parametrize("how", TAGLESS)
 def test_a_row_of_an_item_without_a_tag_is_not_forgotten(page, how):
-    """It is known by its first cells."""
-    before, later, words = TAGLESS[how]
-    rows = [f"{UID_A:016X},Emma,A"]
-    for number, more in enumerate((before, later)):
-        text = "".join(f"{row}\n" for row in ["uid,title,place", *rows, *more])
-        drop(page, {"books.csv": text.encode(), "A.log": field(UID_A)},
+    """It is known by its other cells."""
+    *catalogues, words = TAGLESS[how]
+    for number, lines in enumerate(catalogues):
+        text = "".join(f"{line}\n" for line in lines).encode()
+        drop(page, {"books.csv": text, "A.log": field(UID_A)},
              {"books.csv": NOON + number, "A.log": NOON})
     (headline,) = page.texts("h1")
-    assert headline.endswith(words) if words else "no row now" not in headline
+    assert words in headline if words else "no row now" not in headline
 
 
 def test_a_row_that_was_here_again_is_asked_about_again(page):
@@ -1548,6 +1559,10 @@ OLDER_THAN_GONE = {
         ({"r1.log": field()}, 2), ({"r1.log": field(UID_B)}, 3),
         ({"r0.log": field(UID_A)}, 1),
         ({"books.csv": BOTH, "p.csv": b"place,log\nA,r0.log\nB,r1.log\n"}, 1)),
+    "refused, and counted again": ((COMPLETE, 0), ({"A.log": field(UID_A) + b"S\n"}, 1),
+                                   ({"A.log": field(UID_A, asks=2)}, 2)),
+    "by itself at first": ((OLD_B, 0), (OLD_A, 1), ({"A.log": field(UID_A, asks=2)}, 2),
+                           ({"books.csv": BOTH}, 3)),
     "a catalogue in UTF-16 without its mark": (
         (COMPLETE, 0), ({"export.csv": BOTH.decode().encode("utf-16-le")}, 1)),
     "a table of places, of which none is here": (
@@ -1560,10 +1575,6 @@ NO_OLDER = {
                         "Leave out shelf.log", (OLD_A, 1)),
     "as a copy": ((COMPLETE, 0), ({"B.log": field(UID_B, asks=2)}, 1),
                   ({"A (1).log": field(UID_A, asks=2)}, 2), "Only A (1).log"),
-    "refused at first": ((COMPLETE, 0), ({"A.log": field(UID_A) + b"S\n"}, 1),
-                         ({"A.log": field(UID_A, asks=2)}, 2)),
-    "by itself at first": (({**OLD_B}, 0), (OLD_A, 1), ({"A.log": field(UID_A, asks=2)}, 2),
-                           ({"books.csv": BOTH}, 3)),
     "not whole at first": ((COMPLETE, 0), ({"A.log.part": b"vicinity-log 3"}, 1), (OLD_A, 2)),
     "no log at all": ((COMPLETE, 0), ({"photo.jpg": b"\xff\xd8\xff\xe0\x00"}, 1))}
 
@@ -1874,6 +1885,24 @@ def test_logs_in_texts_of_surveys_are_compared_by_their_names(page, program, tmp
     page.until("h1", "1 item missing (Walden).")
     pressed(page, "Back")
     page.until("h1", f"but the log of {name} is older than one that was here.")
+
+
+def test_each_log_in_a_text_of_surveys_may_be_newer(page, program, tmp_path):
+    """Also one that was refused, and without places one in which nothing was heard."""
+    def opened(name, hours, **logs):
+        for log, text in logs.items():
+            (tmp_path / f"{log}.log").write_bytes(text)
+        text = program.run("survey", *[f"{log}.log" for log in logs], cwd=tmp_path).out
+        drop(page, {name: text if name == "x.surveys" else logs["B"]}, {name: NOON + hours * HOUR})
+
+    for catalogue, early in (BOTH, b"vicinity-log 3\nX\n"), (
+            books((UID_A, ""), (UID_B, ""), head="uid,title"), field()):
+        drop(page, {"books.csv": catalogue}, {"books.csv": NOON})
+        opened("x.surveys", 1, A=field(UID_A), B=early)
+        opened("x.surveys", 2, A=field(UID_A))
+        opened("B.log", 0, B=field(UID_B))
+        assert re.match("All 2 .* but the log of B(.log)? is older than one", page.texts("h1")[0])
+        page.press("#close")
 
 
 # How files may be called, of which one is another count of the other.

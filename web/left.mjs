@@ -1,7 +1,6 @@
 /** Which open files are older than what was here since the page was empty. */
 import { cellsOf, columnsIn, hasUids, isBroken, isPlaces, isSpreadsheet, isStrange, kindOf, startOf, stemOf, surveyedIn, uncopied, utf8Of } from "./judge/files.mjs";
 import { grouped, madeOnce } from "./judge/groups.mjs";
-import { KIND } from "./judge/objects.mjs";
 import { SENTENCES } from "./say/sentences.mjs";
 
 /** @typedef {import("./opened.mjs").Entry} Entry */
@@ -15,15 +14,16 @@ export const UNFINISHED = /\.(crdownload|opdownload|download|part|partial|filepa
 const MARK = /v\0?i\0?c\0?i\0?n\0?i\0?t\0?y\0?-/, HEARD_IN = /(?:^|\n)[RH] \w{4}(\w{16})/g, PROVED_IN = /(?:^|\n)certain (\w{16})/g;
 /** The rows of a catalogue, and the UIDs in logs; by the number of a file that was judged, all places of which its logs were; and what isn't open by
  *  its names. */
-const ROWS = /** @type {WeakMap<Entry, [string, string][]>} */ (new WeakMap()), HEARD = /** @type {WeakMap<Entry, string[]>} */ (new WeakMap());
+const ROWS = /** @type {WeakMap<Entry, [string, string, string][]>} */ (new WeakMap()), HEARD = /** @type {WeakMap<Entry, string[]>} */ (new WeakMap());
 const JUDGED = /** @type {Map<number, Set<string | null>>} */ (new Map()), AWAY = /** @type {WeakMap<Entry[], Map<string | null, Entry[]>>} */ (new WeakMap());
-/** A UID, and one somewhere in a row, how many of its cells say which, what isn't read between digits, and the key of one without; what knows no item. */
-const A_UID = /^E0[0-9A-F]{14}$/, UIDS = /E[ :-]*0(?:[ :-]*[0-9A-F]){14}/gi, MOST_OF_ROW = 2, FILLERS = /[ \t:-]/g, WITHOUT = "none ", NO_ITEMS = { items: [], unexpected: [], logs: [] };
+/** A UID, one beside it, and one somewhere in a row, how many of its cells say which, what isn't read between digits, within how many lines the columns are; what knows no item. */
+const A_UID = /^E0[0-9A-F]{14}$/, ANOTHER = /(?:^|[^0-9A-F])E0[0-9A-F]{14}(?![0-9A-F])/i, UIDS = /E[ :-]*0(?:[ :-]*[0-9A-F]){14}/gi, MOST_OF_ROW = 2, FILLERS = /[ \t:-]/g, MOST_BEFORE = 9, NO_ITEMS = { items: [], unexpected: [], logs: [] };
 
-/** @param {Entry} entry */
-export const isATable = (entry) => kindOf(entry) === "table";
-/** @param {Entry} entry */
-export const isCatalogue = (entry) => isATable(entry) && !isPlaces(entry);
+/**
+ * Whether a file is a table, and whether it is one of items.
+ * @param {Entry} entry
+ */
+export const isATable = (entry) => kindOf(entry) === "table", isCatalogue = (/** @type {Entry} */ entry) => isATable(entry) && !isPlaces(entry);
 
 /**
  * Why a file belongs to no collection; empty if it may.
@@ -90,7 +90,7 @@ export function putAges(object, { tables, logs }, away) {
   const byName = new Map(logs.flatMap((file) => (kindOf(file) === "surveys" ? surveyedIn(file) : [file.name]).map((name) => [name, file])));
   const ofLogs = object.logs.flatMap((into) => {
     const file = byName.get(into.name);
-    if (file && !into.field.startsWith("refused")) judge(file, into.place !== null || into.left_over ? [into.place] : []);
+    if (file && (kindOf(file) === "surveys" || !into.field.startsWith("refused"))) judge(file, into.place !== null || into.left_over ? [into.place] : []);
     return file ? { into: Object.assign(into, { was: file.was }), file, name: file.was ?? into.name } : [];
   });
   put([...tables.map((file, at) => ({ into: object.files[at], file, name: file.name })), ...ofLogs], away, object);
@@ -98,43 +98,46 @@ export function putAges(object, { tables, logs }, away) {
 }
 
 /**
- * Rows of catalogues that aren't here any more, of whose UID there is no row now, and no log tells; of items without a tag, where fewer rows are
- * called like that; and by what these catalogues are known.
+ * Rows of catalogues that aren't here any more, of whose UID there is no row now, and no log tells; or without one, and of whose other cells there
+ * is none that has none, or has a new one; and by what these catalogues are known.
  * @param {CollectionObject} object
  * @param {Entry[]} now
  * @param {Entry[]} before
  */
 function lostIn({ items, unexpected }, now, before) {
-  const known = new Set((before.length ? [...items, ...unexpected] : []).map(({ uid }) => uid)), called = (/** @type {Entry[]} */ all) => grouped(all.flatMap(rowsIn), ([, words]) => words);
-  const isBare = (/** @type {string[]} */ [uid]) => uid.startsWith(WITHOUT), bare = before.filter((file) => rowsIn(file).some(isBare)), left = called(bare.length ? now : []);
-  const files = before.map((file) => ({ file, then: called(bare.filter((it) => it === file)) })).map(({ file, then }) => ({ file, its: rowsIn(file).filter(([uid, words]) =>
-    isBare([uid]) ? (left.get(words) ?? []).length < (then.get(words) ?? []).length : !known.has(uid)) })).filter(({ its }) => its.length), rows = new Map(files.flatMap(({ its }) => its));
+  const known = new Set((before.length ? [...items, ...unexpected] : []).map(({ uid }) => uid));
+  const files = before.map((file) => {
+    const all = rowsIn(file), isBare = all.some(([uid]) => !uid), uids = new Set(isBare ? all.map(([uid]) => uid) : []), left = grouped(isBare ? now.flatMap(rowsIn).filter(([uid]) => !uid || !uids.has(uid)) : [], ([, , key]) => key);
+    return { file, its: isBare && uids.size < 2 ? [] : all.filter(([uid, , key]) => uid ? !known.has(uid) : !left.get(key)?.pop()) };
+  }).filter(({ its }) => its.length), rows = new Map(files.flatMap(({ its }) => its.map(([uid, words, key]) => [uid || key, words])));
   return { rows: [...rows.values()], key: `${files.map(({ file }) => file.id)}: ${[...rows.keys()]}`, names: [...new Set(files.map(({ file }) => file.name))] };
 }
 
 /**
- * The rows of a catalogue by their UIDs, each in a few of its cells, by which those without a tag are known; where it isn't known which cell is
+ * The rows of a catalogue by their UIDs, or without one, each in a few of its other cells, and with all of these; where it isn't known which cell is
  * the UID, by all in the row.
  * @param {Entry} file
- * @returns {[string, string][]}
+ * @returns {[string, string, string][]}
  */
 const rowsIn = (file) => madeOnce(ROWS, file, () => {
-  const lines = new TextDecoder().decode(utf8Of(file.text)).replace(/\0/g, "").split(/\r?\n/), { separator, heads } = columnsIn(lines[0]), at = separator ? heads.indexOf("uid") : -1;
-  return lines.flatMap((line) => {
-    const cells = cellsOf(line, separator || ","), own = (cells[at] ?? "").replace(FILLERS, "").toUpperCase(), words = cells.filter((it, column) => it && column !== at).slice(0, MOST_OF_ROW).join(" \u00B7 "),
-      uids = A_UID.test(own) && cells.length === heads.length && !/\r|(?:^|[^0-9A-F])E0[0-9A-F]{14}(?![0-9A-F])/i.test(cells.filter((_, column) => column !== at).join("\n")) ? [own] : Array.from(line.split(/[,;\t]/).join("\n").matchAll(UIDS), ([it]) => it.replace(FILLERS, "").toUpperCase());
-    return (uids.length || own !== "NONE" ? uids : [WITHOUT + words]).map((uid) => /** @type {[string, string]} */ ([uid, words || uid]));
+  const lines = new TextDecoder().decode(utf8Of(file.text)).replace(/\0/g, "").split(/\r\n?|\n/), head = lines.slice(0, MOST_BEFORE).findIndex((line) => columnsIn(line).separator);
+  const { separator, heads } = columnsIn(lines[head] ?? ""), at = heads.indexOf("uid");
+  return lines.flatMap((line, number) => {
+    const isRead = separator && number > head, cells = isRead ? cellsOf(line, separator) : line.split(/[,;\t]/).map((it) => it.replace(/^["\s]+|["\s]+$/g, "")), column = isRead ? at : cells.findIndex((it) => /^none$/i.test(it));
+    const own = (cells[column] ?? "").replace(FILLERS, "").toUpperCase(), others = cells.filter((it, place) => it && place !== column), words = others.slice(0, MOST_OF_ROW).join(" \u00B7 ");
+    const uids = A_UID.test(own) && cells.length === heads.length && !ANOTHER.test(others.join("\n")) ? [own] : Array.from(line.split(/[,;\t]/).join("\n").matchAll(UIDS), ([it]) => it.replace(FILLERS, "").toUpperCase());
+    const isItem = number !== head && (isRead ? /[^\s,;"]/.test(line) : column >= 0 || head < 0 && number > 0 && others.length > 1);
+    return (uids.length || !isItem ? uids : [""]).map((uid) => /** @type {[string, string, string]} */ ([uid, words || uid || line, others.join("\0") || line]));
   });
 });
 
 /**
  * The same of a log by itself: only of its name, or in texts of surveys.
- * @param {Age & {kind: string}} into
+ * @param {Age} into
  * @param {Entry} file
  * @param {Entry[]} away
  */
 export function putAge(into, file, away, one = { into, file, name: file.was ?? file.name }) {
-  if (into.kind !== KIND.REFUSED) judge(file, []);
   const named = madeOnce(AWAY, away, () => grouped(away, (it) => kindOf(it) === "surveys" ? null : firstName(it.was ?? it.name)));
   put([one], [null, firstName(one.name)].flatMap((name) => named.get(name) ?? []));
 }
@@ -173,21 +176,21 @@ function hereOf(open, { items, unexpected, logs: all }) {
  * which these are, of which it was judged, and where what was heard in it belongs; and with those that prove what those of its name don't. One of
  * no place is of the one like which it is called, also as a copy, if all that was heard in it belongs there. It may be of any if none of its name
  * is here but by another, a place of which it was has no log, or it was of none and that of its name isn't any more: but not while all places of
- * which it was have none. So may one that wasn't judged beside others, or without places, if those of its name don't prove all that was heard.
+ * which it was have none. So may one that wasn't judged with a place; without places, unless those of its name prove all that was heard in it.
  * @param {Entry} gone
  * @param {ReturnType<typeof hereOf>} here
  */
 function besideOf(gone, { tables, logs, known, named, at, renamed, without, proving }) {
-  const all = [...tables, ...logs], whole = gone.name.replace(UNFINISHED, ""), isTable = isATable(gone) && (!strangeness(gone) || rowsIn(gone).length > 0);
+  const all = [...tables, ...logs], whole = gone.name.replace(UNFINISHED, ""), isTable = isATable(gone) && (!strangeness(gone) || rowsIn(gone).some(([uid]) => uid));
   const its = isTable ? tables.filter(({ file }) => isPlaces(file) === isPlaces(gone)) : whole === gone.name ? [] : all.filter(({ file }) => !file.was && file.name === whole);
   if (its.length || isTable) return its.length ? its : all;
   if (strangeness(gone) && !MARK.test(startOf(gone))) return all.filter(({ name }) => rootOf(name) === rootOf(gone.name));
-  if (!JUDGED.has(gone.id) && !/^vicinity-log /.test(startOf(gone))) return all;
+  if (!JUDGED.has(gone.id)) return /^vicinity-log /.test(startOf(gone)) ? logs : all;
   const own = bareOf(gone.name), heard = heardIn(gone), homes = heard.map((uid) => known.get(uid)?.place ?? null), of = heard.length && homes.every((it) => it === uncopied(own)) ? uncopied(own) : null;
   const judged = [...JUDGED.get(gone.id) ?? []].map((place) => place ?? of), alike = new Set([...(named.get(own) ?? []).map(({ it }) => it), ...of && at.get(of) || []]);
   if (!alike.size && judged.length && judged.every((it) => without.has(it))) return [];
   const others = heard.map(proving).filter((its) => !its.some((it) => alike.has(it))), isPlaced = judged.every((it) => it === null ? [...alike].some(({ into }) => into.place === it) : at.has(it));
-  if (!alike.size || !isPlaced || !of && renamed.has(own) || !judged.length && (!heard.length || others.length)) return logs;
+  if (!alike.size || !isPlaced || !of && renamed.has(own) || !judged.length && (at.size > 1 || !at.has(null) || kindOf(gone) === "surveys" || !heard.length || others.length)) return logs;
   const places = [...judged, ...homes, ...[...alike].map(({ into }) => into.place ?? null)];
   return [...new Set([...alike, ...others.flat(), ...places.flatMap((it) => it !== null && at.get(it) || [])])];
 }

@@ -330,6 +330,7 @@ struct Written {
 };
 
 // What the program does for a command over texts in memory. Usage: they aren't what it takes.
+// std::bad_alloc is also for a name that isn't UTF-8.
 inline Written run(vicinity_command command, const std::vector<Named> &texts)
 {
     std::string names, joined;

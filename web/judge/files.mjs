@@ -60,16 +60,10 @@ export const startOf = ({ text }) => new TextDecoder("utf-8", { ignoreBOM: true 
 const headsOf = ({ text }) => columnsIn(new TextDecoder().decode(utf8Of(text.subarray(0, MOST_OF_HEADS), true)).split(/\r?\n/, 1)[0]).heads;
 
 /**
- * Whether a table says which UIDs items have.
+ * Whether a table says which UIDs items have, and whether it says which logs are of which place.
  * @param {Given} file
  */
-export const hasUids = (file) => headsOf(file).includes("uid");
-
-/**
- * Whether a table says which logs are of which place.
- * @param {Given} file
- */
-export const isPlaces = (file) => ["place", "log"].every((head) => headsOf(file).includes(head)) && !hasUids(file);
+export const hasUids = (file) => headsOf(file).includes("uid"), isPlaces = (/** @type {Given} */ file) => ["place", "log"].every((head) => headsOf(file).includes(head)) && !hasUids(file);
 
 /**
  * The cells of a line of a table.

@@ -104,9 +104,10 @@ export function ofAPlace({ logs, items, unexpected, files, without_log }) {
  * Logs of which all that was heard belongs to one other place and isn't there; where of a log of that place the same is so,
  * both in one.
  * @param {CollectionObject} object
+ * @param {Shelves} shelves
  * @returns {Doubt[]}
  */
-export function interchanged({ logs, items }) {
+export function interchanged({ logs, items }, shelves) {
   const misplaced = items.filter(({ state }) => state === "misplaced").flatMap(({ certain_in: its, place }) => its.map((at) => ({ at, place })));
   const heard = grouped(misplaced, ({ at }) => at), homes = logs.map(({ place, certain = 0 }, at) => {
     const all = heard.get(at) ?? [], home = all[0]?.place ?? null;
@@ -114,7 +115,7 @@ export function interchanged({ logs, items }) {
   });
   return logs.flatMap(({ place, name, certain = 0 }, at) => {
     const home = homes[at], other = home === null ? -1 : logs.findIndex((log, it) => log.place === home && homes[it] === place);
-    const one = printable(place ?? ""), where = printable(home ?? ""), isBoth = other >= 0, numbers = isBoth ? [at, other] : [at];
+    const one = shelves.apart([at])[0], where = printable(home ?? ""), isBoth = other >= 0, numbers = isBoth ? [at, other] : [at];
     // a single tag may as well be one item on a wrong shelf
     if (home === null || (isBoth ? other < at : certain === 1)) return [];
     const key = `${numbers.map((it) => olderOne(logs[it])).join()} is of ${place}`;

@@ -29,7 +29,7 @@ export function doubtsOf(object, shelves) {
   const namesIn = (/** @type {Doubt[]} */ doubts) => doubts.flatMap(({ logs = [] }) => logs), { both, files, logs } = object;
   const first = [...copies(object, shelves), ...ofAPlace(object)], { doubts } = askedOf(first, both), those = namesIn(doubts);
   const alike = same(object, those), aged = logs.map((log, at) => ({ ...log, at, of: shelves.name(at) }));
-  return askedOf([...first, ...alike, ...interchanged(object), ...ofPlaces(object, those, doubts.flatMap(({ places = [] }) => places)),
+  return askedOf([...first, ...alike, ...interchanged(object, shelves), ...ofPlaces(object, those, doubts.flatMap(({ places = [] }) => places)),
     ...notHere(object), ...cutOff(object), ...withoutRow(object), ...older([...files.map((it) => ({ ...it, name: it.file })), ...aged], both),
     ...ofOtherDays(aged, both), ...ruledOut(object, shelves), ...withoutAnswer(object, shelves),
     ...shared(object, shelves, [...those, ...namesIn(alike)]), ...notAsked(object, shelves)], both);

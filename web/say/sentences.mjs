@@ -34,7 +34,7 @@ export const SENTENCES = {
     "Result": ["this is what was written about a catalogue, and no catalogue", "Take the catalogue itself."],
     "Cells": ["the row has more or fewer cells than the first line", "Quote a cell that has the separator in it; let no line break stand in one."],
     "Uid": ["the cell 'uid' has no UID of 16 hex digits that begin with E0, nor the word 'none'", "Write 'none' where an item has no tag. Store the column as text: a spreadsheet rounds long numbers."],
-    "UidElsewhere": ["another cell than 'uid' has a UID", "Put each tag on a row of its own, or take the UID out of the note."], "DuplicateUid": ["a row before has that UID", "Delete one of the two rows, or correct its UID."],
+    "UidElsewhere": ["another cell than 'uid' has a UID", "Put each tag on a row of its own, or take the UID out of the note."], "DuplicateUid": ["a row before has that UID", "Correct the UID of one of the two rows; delete one only if both are of the same item."],
     "Place": ["the cell 'place' (or 'log') is blank", "Write 'any' for an item without a fixed place; delete the row of a place without a log."],
     "Away": ["the cell 'away' is neither blank nor the word 'away'", "Write 'away', or leave the cell blank; a date or a name goes into another column."],
     "DuplicateLog": ["a row before has that log", "A log is of one place: delete one of the two rows."], "NoItems": ["the catalogue has no row", "Check that the file was written to its end."],
