@@ -1316,6 +1316,7 @@ HEAD, EMMA, NO_ROW = "uid,title,place", f"{UID_A:016X},Emma,A", "has no row now:
 TAGLESS = {
     "gone": ([HEAD, EMMA, "none,Map,A"], [HEAD, EMMA], NO_ROW),
     "one of two": ([HEAD, EMMA, "none,Map,A", "NONE,Map,A"], [HEAD, EMMA, "none,Map,A"], NO_ROW),
+    "before any had a tag": ([HEAD, "none,Emma,A", "none,Map,A"], [HEAD, EMMA], NO_ROW),
     "of which no UID was known": ([HEAD, EMMA, ",Map,A"], [HEAD, EMMA], NO_ROW),
     "with a UID that is none": ([HEAD, EMMA, "E0040100,Map,A"], [HEAD, EMMA], NO_ROW),
     "below a title": (["Books,,", HEAD, EMMA, "none,Map,A"], [HEAD, EMMA], NO_ROW),

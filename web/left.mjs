@@ -99,7 +99,7 @@ export function putAges(object, { tables, logs }, away) {
 
 /**
  * Rows of catalogues that aren't here any more, of whose UID there is no row now, and no log tells; or without one, and of whose other cells there
- * is none that has none, or has a new one; and by what these catalogues are known.
+ * is none that has none, or has a new one; and by what these catalogues are known. A table without a column of UIDs, and without any, is none.
  * @param {CollectionObject} object
  * @param {Entry[]} now
  * @param {Entry[]} before
@@ -108,7 +108,7 @@ function lostIn({ items, unexpected }, now, before) {
   const known = new Set((before.length ? [...items, ...unexpected] : []).map(({ uid }) => uid));
   const files = before.map((file) => {
     const all = rowsIn(file), isBare = all.some(([uid]) => !uid), uids = new Set(isBare ? all.map(([uid]) => uid) : []), left = grouped(isBare ? now.flatMap(rowsIn).filter(([uid]) => !uid || !uids.has(uid)) : [], ([, , key]) => key);
-    return { file, its: isBare && uids.size < 2 ? [] : all.filter(([uid, , key]) => uid ? !known.has(uid) : !left.get(key)?.pop()) };
+    return { file, its: isBare && uids.size < 2 && strangeness(file) ? [] : all.filter(([uid, , key]) => uid ? !known.has(uid) : !left.get(key)?.pop()) };
   }).filter(({ its }) => its.length), rows = new Map(files.flatMap(({ its }) => its.map(([uid, words, key]) => [uid || key, words])));
   return { rows: [...rows.values()], key: `${files.map(({ file }) => file.id)}: ${[...rows.keys()]}`, names: [...new Set(files.map(({ file }) => file.name))] };
 }
