@@ -1316,6 +1316,15 @@ HEAD, EMMA, NO_ROW = "uid,title,place", f"{UID_A:016X},Emma,A", "has no row now:
 TAGLESS = {
     "gone": ([HEAD, EMMA, "none,Map,A"], [HEAD, EMMA], NO_ROW),
     "one of two": ([HEAD, EMMA, "none,Map,A", "NONE,Map,A"], [HEAD, EMMA, "none,Map,A"], NO_ROW),
+    "three of one kind": ([HEAD, EMMA, *["none,Map,A"] * 3], [HEAD, EMMA],
+                          "3 items of a table that was here have no row now: Map \u00B7 A"),
+    "with the UID of another": (
+        [HEAD, EMMA, EMMA.replace("Emma", "Map")], [HEAD, EMMA], NO_ROW),
+    "listed twice": ([HEAD, EMMA, EMMA], [HEAD, EMMA], ""),
+    "whose UID is another's box": (
+        [HEAD, EMMA, f"E00401,Map {UID_A:016X},A"], [HEAD, EMMA], "has no row now: Map "),
+    "before any had a tag, below a title": (
+        ["Books,,", HEAD, "none,Emma,A", "none,Map,A"], [HEAD, EMMA], NO_ROW),
     "before any had a tag": ([HEAD, "none,Emma,A", "none,Map,A"], [HEAD, EMMA], NO_ROW),
     "of which no UID was known": ([HEAD, EMMA, ",Map,A"], [HEAD, EMMA], NO_ROW),
     "with a UID that is none": ([HEAD, EMMA, "E0040100,Map,A"], [HEAD, EMMA], NO_ROW),
@@ -1325,6 +1334,21 @@ TAGLESS = {
     "beside a new one called alike": (
         [f"{HEAD},number", f"{EMMA},1", "none,Map,A,7"],
         [f"{HEAD},number", f"{EMMA},1", f"{UID_B:016X},Map,A,9"], NO_ROW),
+    "in the box of another": (
+        [f"{HEAD},box", f"{EMMA},", "none,Map,A,E0:04:01:00:00:00:00:A1"],
+        [f"{HEAD},box", f"{EMMA},"], NO_ROW),
+    "with the UID of another in its title": (
+        [HEAD, EMMA, f"none,Map {UID_A:016X},A"], [HEAD, EMMA], "has no row now: Map "),
+    "behind a line break that was lost": (
+        [HEAD, f"{EMMA}none,Map,A"], [HEAD, EMMA], "no row now: Emma \u00B7 Anone"),
+    "between bars": ([HEAD.replace(",", "|"), EMMA.replace(",", "|"), "none|Map|A"],
+                     [HEAD, EMMA], NO_ROW),
+    "beside a UUID, tagged": (
+        [f"{HEAD},id", f"{EMMA},", "none,Map,A,3f2504e0-4f89-41d3-9a0c-0305e82c3301"],
+        [f"{HEAD},id", f"{EMMA},", f"{UID_B:016X},Map,A,3f2504e0-4f89-41d3-9a0c-0305e82c3301"],
+        ""),
+    "tagged, and quoted": ([HEAD, f"{UID_A:016X},Emma, the novel,A"],
+                           [HEAD, f'{UID_A:016X},"Emma, the novel",A'], ""),
     "tagged": ([HEAD, EMMA, "none,Map,A"], [HEAD, EMMA, f"{UID_B:016X},Map,A"], ""),
     "tagged, where no UID was known": (
         [HEAD, EMMA, ",Map,A"], [HEAD, EMMA, f"{UID_B:016X},Map,A"], ""),
@@ -1564,6 +1588,9 @@ OLDER_THAN_GONE = {
                                    ({"A.log": field(UID_A, asks=2)}, 2)),
     "by itself at first": ((OLD_B, 0), (OLD_A, 1), ({"A.log": field(UID_A, asks=2)}, 2),
                            ({"books.csv": BOTH}, 3)),
+    "no log, with the name by which one counts": (
+        ({"books.csv": BOTH, **OLD_B}, 0), ({"scan.log": field(UID_A)}, 0), "Count it as A",
+        ({"A.log": b"timeout\n"}, 1), "Back"),
     "a catalogue in UTF-16 without its mark": (
         (COMPLETE, 0), ({"export.csv": BOTH.decode().encode("utf-16-le")}, 1)),
     "a table of places, of which none is here": (
@@ -1904,6 +1931,11 @@ def test_each_log_in_a_text_of_surveys_may_be_newer(page, program, tmp_path):
         opened("B.log", 0, B=field(UID_B))
         assert re.match("All 2 .* but the log of B(.log)? is older than one", page.texts("h1")[0])
         page.press("#close")
+    drop(page, {"books.csv": BOTH}, {"books.csv": NOON})
+    opened("x.surveys", 1, A=field(UID_A), B=field(UID_B))
+    drop(page, {"x.surveys": b"bash: vicinity: command not found\n"}, {"x.surveys": NOON + DAY})
+    page.press("#back")
+    page.until("h1", "but the logs of A and B are older than those that were here.")
 
 
 # How files may be called, of which one is another count of the other.

@@ -14,7 +14,7 @@ export const UNFINISHED = /\.(crdownload|opdownload|download|part|partial|filepa
 const MARK = /v\0?i\0?c\0?i\0?n\0?i\0?t\0?y\0?-/, HEARD_IN = /(?:^|\n)[RH] \w{4}(\w{16})/g, PROVED_IN = /(?:^|\n)certain (\w{16})/g;
 /** The rows of a catalogue, and the UIDs in logs; by the number of a file that was judged, all places of which its logs were; and what isn't open by
  *  its names. */
-const ROWS = /** @type {WeakMap<Entry, [string, string, string][]>} */ (new WeakMap()), HEARD = /** @type {WeakMap<Entry, string[]>} */ (new WeakMap());
+const ROWS = /** @type {WeakMap<Entry, [string, string, string, boolean][]>} */ (new WeakMap()), HEARD = /** @type {WeakMap<Entry, string[]>} */ (new WeakMap());
 const JUDGED = /** @type {Map<number, Set<string | null>>} */ (new Map()), AWAY = /** @type {WeakMap<Entry[], Map<string | null, Entry[]>>} */ (new WeakMap());
 /** A UID, one beside it, and one somewhere in a row, how many of its cells say which, what isn't read between digits, within how many lines the columns are; what knows no item. */
 const A_UID = /^E0[0-9A-F]{14}$/, ANOTHER = /(?:^|[^0-9A-F])E0[0-9A-F]{14}(?![0-9A-F])/i, UIDS = /E[ :-]*0(?:[ :-]*[0-9A-F]){14}/gi, MOST_OF_ROW = 2, FILLERS = /[ \t:-]/g, MOST_BEFORE = 9, NO_ITEMS = { items: [], unexpected: [], logs: [] };
@@ -53,18 +53,11 @@ const heardIn = (file) => madeOnce(HEARD, file, (text = new TextDecoder().decode
   ...Array.from(text.matchAll(HEARD_IN), ([, uid]) => (uid.match(/../g) ?? []).reverse().join("").toUpperCase())]);
 
 /**
- * Keeps of which places a log is that could be judged, or those in a text of surveys.
+ * Keeps of which places a log is that could be judged, or those in a text of surveys; and whether two files have the same bytes.
  * @param {Entry} file
  * @param {(string | null)[]} places
  */
-const judge = ({ id }, places) => JUDGED.set(id, new Set([...JUDGED.get(id) ?? [], ...places]));
-
-/**
- * Whether two files have the same bytes.
- * @param {Entry} one
- * @param {Entry} other
- */
-const isEqual = ({ text: one }, { text: other }) => one.length > 0 && one.length === other.length && one.every((byte, at) => byte === other[at]);
+const judge = ({ id }, places) => JUDGED.set(id, new Set([...JUDGED.get(id) ?? [], ...places])), isEqual = (/** @type {Entry} */ { text: one }, /** @type {Entry} */ { text: other }) => one.length > 0 && one.length === other.length && one.every((byte, at) => byte === other[at]);
 
 /**
  * What isn't open any more, also by no other name if a tag was heard in it; but what by its bytes was no log and no table, and what was typed.
@@ -99,36 +92,40 @@ export function putAges(object, { tables, logs }, away) {
 
 /**
  * Rows of catalogues that aren't here any more, of whose UID there is no row now, and no log tells; or without one, and of whose other cells there
- * is none that has none, or has a new one; and by what these catalogues are known. A table without a column of UIDs, and without any, is none.
+ * is none that has none, or has a new one; and by what these catalogues are known.
  * @param {CollectionObject} object
  * @param {Entry[]} now
  * @param {Entry[]} before
  */
 function lostIn({ items, unexpected }, now, before) {
-  const known = new Set((before.length ? [...items, ...unexpected] : []).map(({ uid }) => uid));
+  const known = new Set((before.length ? [...items, ...unexpected] : []).map(({ uid }) => uid)), keyOf = (/** @type {string} */ others) => others.replace(UIDS, "").replace(/[^\p{L}\p{N}]+/gu, "");
   const files = before.map((file) => {
-    const all = rowsIn(file), isBare = all.some(([uid]) => !uid), uids = new Set(isBare ? all.map(([uid]) => uid) : []), left = grouped(isBare ? now.flatMap(rowsIn).filter(([uid]) => !uid || !uids.has(uid)) : [], ([, , key]) => key);
-    return { file, its: isBare && uids.size < 2 && strangeness(file) ? [] : all.filter(([uid, , key]) => uid ? !known.has(uid) : !left.get(key)?.pop()) };
-  }).filter(({ its }) => its.length), rows = new Map(files.flatMap(({ its }) => its.map(([uid, words, key]) => [uid || key, words])));
+    const all = rowsIn(file), isBare = all.some(([uid]) => !uid), own = new Set(isBare ? all.flatMap(([uid, , , isOwn]) => isOwn ? uid : []) : []);
+    const left = grouped(isBare ? now.flatMap(rowsIn).filter(([uid]) => !uid || !own.has(uid)) : [], ([, , others]) => keyOf(others)), nth = /** @type {Map<string, number>} */ (new Map());
+    const gone = new Set(isBare ? all.flatMap(([uid, , others]) => uid && !known.has(uid) ? others : []) : []), its = all.filter(([uid, , others]) => uid ? !known.has(uid) : !gone.has(others) && !left.get(keyOf(others))?.pop());
+    return { its, file, keys: its.map(([uid, , others]) => uid || `${others} ${nth.set(others, (nth.get(others) ?? 0) + 1).get(others)}`) };
+  }).filter(({ its }) => its.length), rows = new Map(files.flatMap(({ its, keys }) => its.map(([, words], number) => [keys[number], words])));
   return { rows: [...rows.values()], key: `${files.map(({ file }) => file.id)}: ${[...rows.keys()]}`, names: [...new Set(files.map(({ file }) => file.name))] };
 }
 
 /**
- * The rows of a catalogue by their UIDs, or without one, each in a few of its other cells, and with all of these; where it isn't known which cell is
- * the UID, by all in the row.
+ * The rows of a catalogue by their UIDs, or without one, each in a few of its other cells, with all of these, and whether that is all that it has;
+ * where it isn't known which cell is the UID, by all in the row.
  * @param {Entry} file
- * @returns {[string, string, string][]}
+ * @returns {[string, string, string, boolean][]}
  */
 const rowsIn = (file) => madeOnce(ROWS, file, () => {
-  const lines = new TextDecoder().decode(utf8Of(file.text)).replace(/\0/g, "").split(/\r\n?|\n/), head = lines.slice(0, MOST_BEFORE).findIndex((line) => columnsIn(line).separator);
-  const { separator, heads } = columnsIn(lines[head] ?? ""), at = heads.indexOf("uid");
-  return lines.flatMap((line, number) => {
-    const isRead = separator && number > head, cells = isRead ? cellsOf(line, separator) : line.split(/[,;\t]/).map((it) => it.replace(/^["\s]+|["\s]+$/g, "")), column = isRead ? at : cells.findIndex((it) => /^none$/i.test(it));
-    const own = (cells[column] ?? "").replace(FILLERS, "").toUpperCase(), others = cells.filter((it, place) => it && place !== column), words = others.slice(0, MOST_OF_ROW).join(" \u00B7 ");
-    const uids = A_UID.test(own) && cells.length === heads.length && !ANOTHER.test(others.join("\n")) ? [own] : Array.from(line.split(/[,;\t]/).join("\n").matchAll(UIDS), ([it]) => it.replace(FILLERS, "").toUpperCase());
-    const isItem = number !== head && (isRead ? /[^\s,;"]/.test(line) : column >= 0 || head < 0 && number > 0 && others.length > 1);
-    return (uids.length || !isItem ? uids : [""]).map((uid) => /** @type {[string, string, string]} */ ([uid, words || uid || line, others.join("\0") || line]));
+  const text = new TextDecoder().decode(utf8Of(file.text)).replace(/\0/g, ""), lines = text.split(/\r\n?|\n/), head = lines.slice(0, MOST_BEFORE).findIndex((line) => columnsIn(line).separator);
+  const { separator, heads } = columnsIn(lines[head] ?? ""), at = heads.indexOf("uid"), isListed = head < 0 && text.search(UIDS) >= 0, rows = lines.flatMap((line, number) => {
+    const isRead = separator && number > head, cells = isRead ? cellsOf(line, separator) : line.split(/[,;\t|]/).map((it) => it.replace(/^["\s]+|["\s]+$/g, "")), column = isRead ? at : cells.findIndex((it) => /^none$/i.test(it));
+    const own = (cells[column] ?? "").replace(FILLERS, "").toUpperCase(), others = cells.filter((it, place) => it && place !== column), words = others.slice(0, MOST_OF_ROW).join(" \u00B7 "), isFit = isRead && cells.length === heads.length;
+    const isClear = isFit && (own === "NONE" || A_UID.test(own)) && !ANOTHER.test(others.join("\n")), found = isClear ? [own === "NONE" ? "" : own] : Array.from(line.split(/[,;\t]/).join("\n").matchAll(UIDS), ([it]) => it.replace(FILLERS, "").toUpperCase());
+    const isItem = number !== head && (isRead ? /[^\s,;"]/.test(line) : column >= 0 || isListed && number > 0 && others.length > 1), uids = !isClear && isItem && (!found.length || /none/i.test(line) || isFit && !A_UID.test(own)) ? [...found, ""] : found;
+    return uids.map((uid) => /** @type {[string, string, string, boolean]} */ ([uid, uid && uids.length > 1 ? uid : words || uid || line, others.join(" ") || line, uid !== "" && uids.length === 1]));
   });
+  // of two items with one UID each is known by its other cells
+  const last = new Map(rows.flatMap(([uid, , others, isOwn]) => isOwn ? [[uid, others]] : [])), twice = new Set(rows.flatMap(([uid, , others, isOwn]) => isOwn && last.get(uid) !== others ? uid : []));
+  return twice.size ? rows.map((row) => row[3] && twice.has(row[0]) ? ["", row[1], row[2], false] : row) : rows;
 });
 
 /**
@@ -184,8 +181,7 @@ function besideOf(gone, { tables, logs, known, named, at, renamed, without, prov
   const all = [...tables, ...logs], whole = gone.name.replace(UNFINISHED, ""), isTable = isATable(gone) && (!strangeness(gone) || rowsIn(gone).some(([uid]) => uid));
   const its = isTable ? tables.filter(({ file }) => isPlaces(file) === isPlaces(gone)) : whole === gone.name ? [] : all.filter(({ file }) => !file.was && file.name === whole);
   if (its.length || isTable) return its.length ? its : all;
-  if (strangeness(gone) && !MARK.test(startOf(gone))) return all.filter(({ name }) => rootOf(name) === rootOf(gone.name));
-  if (!JUDGED.has(gone.id)) return /^vicinity-log /.test(startOf(gone)) ? logs : all;
+  if (!JUDGED.has(gone.id)) return strangeness(gone) && !MARK.test(startOf(gone)) ? all.filter(({ name, file }) => [name, file.name].map(rootOf).includes(rootOf(gone.name))) : /^vicinity-log /.test(startOf(gone)) ? logs : all;
   const own = bareOf(gone.name), heard = heardIn(gone), homes = heard.map((uid) => known.get(uid)?.place ?? null), of = heard.length && homes.every((it) => it === uncopied(own)) ? uncopied(own) : null;
   const judged = [...JUDGED.get(gone.id) ?? []].map((place) => place ?? of), alike = new Set([...(named.get(own) ?? []).map(({ it }) => it), ...of && at.get(of) || []]);
   if (!alike.size && judged.length && judged.every((it) => without.has(it))) return [];

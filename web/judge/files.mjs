@@ -134,16 +134,10 @@ export const surveyedIn = (file) => kindOf(file) !== "surveys" ? [] : Array.from
 export const isStrange = (file) => kindOf(file) === "other" && (isSpreadsheet(startOf(file)) || NO_TEXT_AT_ALL.test(startOf(file)));
 
 /**
- * A name without folders and ending.
+ * A name without folders and ending; and one as it was before it was copied.
  * @param {string} name
  */
-export const stemOf = (name) => (name.split(/[/\\]/).pop() ?? "").replace(/(?!^)\.[^.]*$/, "");
-
-/**
- * A name as it was before it was copied.
- * @param {string} stem
- */
-export const uncopied = (stem) => COPIED.exec(stem)?.[1] ?? stem;
+export const stemOf = (name) => (name.split(/[/\\]/).pop() ?? "").replace(/(?!^)\.[^.]*$/, ""), uncopied = (/** @type {string} */ name) => COPIED.exec(name)?.[1] ?? name;
 
 /**
  * Which names are those of copies, or of later counts, of others: pairs of such a name and the other one.
