@@ -1307,7 +1307,9 @@ def test_a_row_is_known_by_its_own_cell(page, how):
     drop(page, {"books.csv": BOTH}, {"books.csv": NOON + HOUR})
     page.until("h1", "but 1 item of a table that was here has no row now: ")
     drop(page, {"books.csv": BOTH + b"E0040100000000C3,Kim,A\n"}, {"books.csv": NOON + 2 * HOUR})
-    assert page.texts("h1") == ["1 item missing (Kim, of A)."]
+    # whose title was another beside 'none'
+    more = "; 1 item of a table that was here has no row now: Kim E0040100000000C3 \u00B7 A"
+    assert page.texts("h1") == [f"1 item missing (Kim, of A){more * ('none' in how)}."]
 
 
 # A catalogue with rows of items that have no tag, behind that of Emma, and a later one; and what is
@@ -1318,6 +1320,21 @@ TAGLESS = {
     "one of two": ([HEAD, EMMA, "none,Map,A", "NONE,Map,A"], [HEAD, EMMA, "none,Map,A"], NO_ROW),
     "three of one kind": ([HEAD, EMMA, *["none,Map,A"] * 3], [HEAD, EMMA],
                           "3 items of a table that was here have no row now: Map \u00B7 A"),
+    "beside a tagged one of the kind, that is lost too": (
+        [HEAD, EMMA, f"{UID_B:016X},Map,A", *["none,Map,A"] * 2], [HEAD, EMMA],
+        "3 items of a table that was here have no row now: Map \u00B7 A"),
+    "with cells that together look like a UID": (
+        [f"{HEAD},code", f"{EMMA},", "none,The ache,A,00142437208184"],
+        [f"{HEAD},code", f"{EMMA},", f"{UID_B:016X},The ache,A,00142437208199"], "now: The "),
+    "with digits in other cells": (
+        [f"{HEAD},copy", f"{EMMA},", "none,Map 1,A,12"],
+        [f"{HEAD},copy", f"{EMMA},", f"{UID_B:016X},Map 11,A,2"], "has no row now: Map 1 "),
+    "with other vowel signs": (
+        [HEAD, EMMA, "none,\u0915\u093e\u0932\u093e,A"],
+        [HEAD, EMMA, f"{UID_B:016X},\u0915\u0932\u093e,A"], "has no row now"),
+    "without its last cell, beside the UID of another": (
+        ["title,place,note,uid", f"Emma,A,,{UID_A:016X}", f"Map,A,in box {UID_A:016X}"],
+        ["title,place,note,uid", f"Emma,A,,{UID_A:016X}"], "has no row now: Map \u00B7 A"),
     "with the UID of another": (
         [HEAD, EMMA, EMMA.replace("Emma", "Map")], [HEAD, EMMA], NO_ROW),
     "listed twice": ([HEAD, EMMA, EMMA], [HEAD, EMMA], ""),

@@ -8,13 +8,16 @@ import { SENTENCES } from "./say/sentences.mjs";
 /** @typedef {{changed?: number, newer?: number, than?: string, beside?: number}} Age when a file was changed, and the newest one beside which it may
  *   not count; and the sum of what these are known by */
 
+/** @typedef {[string, string, string, boolean, number]} Row a UID, or none; a few of the other cells, and all; whether it is the only UID in the row; and
+ *   the number of the line */
+
 /** How the name of a file ends while it is downloaded, or written; and why a text is no log. */
 export const UNFINISHED = /\.(crdownload|opdownload|download|part|partial|filepart|tmp)$/i, NO_LOG = "a log begins with 'vicinity-log'";
 /** How a log or surveys begin, in whatever coding; a tag in a log, and in surveys. */
 const MARK = /v\0?i\0?c\0?i\0?n\0?i\0?t\0?y\0?-/, HEARD_IN = /(?:^|\n)[RH] \w{4}(\w{16})/g, PROVED_IN = /(?:^|\n)certain (\w{16})/g;
 /** The rows of a catalogue, and the UIDs in logs; by the number of a file that was judged, all places of which its logs were; and what isn't open by
  *  its names. */
-const ROWS = /** @type {WeakMap<Entry, [string, string, string, boolean][]>} */ (new WeakMap()), HEARD = /** @type {WeakMap<Entry, string[]>} */ (new WeakMap());
+const ROWS = /** @type {WeakMap<Entry, Row[]>} */ (new WeakMap()), HEARD = /** @type {WeakMap<Entry, string[]>} */ (new WeakMap());
 const JUDGED = /** @type {Map<number, Set<string | null>>} */ (new Map()), AWAY = /** @type {WeakMap<Entry[], Map<string | null, Entry[]>>} */ (new WeakMap());
 /** A UID, one beside it, and one somewhere in a row, how many of its cells say which, what isn't read between digits, within how many lines the columns are; what knows no item. */
 const A_UID = /^E0[0-9A-F]{14}$/, ANOTHER = /(?:^|[^0-9A-F])E0[0-9A-F]{14}(?![0-9A-F])/i, UIDS = /E[ :-]*0(?:[ :-]*[0-9A-F]){14}/gi, MOST_OF_ROW = 2, FILLERS = /[ \t:-]/g, MOST_BEFORE = 9, NO_ITEMS = { items: [], unexpected: [], logs: [] };
@@ -98,34 +101,33 @@ export function putAges(object, { tables, logs }, away) {
  * @param {Entry[]} before
  */
 function lostIn({ items, unexpected }, now, before) {
-  const known = new Set((before.length ? [...items, ...unexpected] : []).map(({ uid }) => uid)), keyOf = (/** @type {string} */ others) => others.replace(UIDS, "").replace(/[^\p{L}\p{N}]+/gu, "");
+  const known = new Set((before.length ? [...items, ...unexpected] : []).map(({ uid }) => uid)), keyOf = (/** @type {string} */ others) => others.normalize("NFC").replace(/[^\p{L}\p{M}\p{N}\n]+/gu, "");
   const files = before.map((file) => {
     const all = rowsIn(file), isBare = all.some(([uid]) => !uid), own = new Set(isBare ? all.flatMap(([uid, , , isOwn]) => isOwn ? uid : []) : []);
     const left = grouped(isBare ? now.flatMap(rowsIn).filter(([uid]) => !uid || !own.has(uid)) : [], ([, , others]) => keyOf(others)), nth = /** @type {Map<string, number>} */ (new Map());
-    const gone = new Set(isBare ? all.flatMap(([uid, , others]) => uid && !known.has(uid) ? others : []) : []), its = all.filter(([uid, , others]) => uid ? !known.has(uid) : !gone.has(others) && !left.get(keyOf(others))?.pop());
+    const gone = new Set(isBare ? all.flatMap(([uid, , , , line]) => uid && !known.has(uid) ? line : []) : []), its = all.filter(([uid, , others, , line]) => uid ? !known.has(uid) : !gone.has(line) && !left.get(keyOf(others))?.pop());
     return { its, file, keys: its.map(([uid, , others]) => uid || `${others} ${nth.set(others, (nth.get(others) ?? 0) + 1).get(others)}`) };
   }).filter(({ its }) => its.length), rows = new Map(files.flatMap(({ its, keys }) => its.map(([, words], number) => [keys[number], words])));
   return { rows: [...rows.values()], key: `${files.map(({ file }) => file.id)}: ${[...rows.keys()]}`, names: [...new Set(files.map(({ file }) => file.name))] };
 }
 
 /**
- * The rows of a catalogue by their UIDs, or without one, each in a few of its other cells, with all of these, and whether that is all that it has;
- * where it isn't known which cell is the UID, by all in the row.
+ * The rows of a catalogue; where it isn't known which cell is the UID, by all UIDs in the row.
  * @param {Entry} file
- * @returns {[string, string, string, boolean][]}
+ * @returns {Row[]}
  */
 const rowsIn = (file) => madeOnce(ROWS, file, () => {
   const text = new TextDecoder().decode(utf8Of(file.text)).replace(/\0/g, ""), lines = text.split(/\r\n?|\n/), head = lines.slice(0, MOST_BEFORE).findIndex((line) => columnsIn(line).separator);
   const { separator, heads } = columnsIn(lines[head] ?? ""), at = heads.indexOf("uid"), isListed = head < 0 && text.search(UIDS) >= 0, rows = lines.flatMap((line, number) => {
     const isRead = separator && number > head, cells = isRead ? cellsOf(line, separator) : line.split(/[,;\t|]/).map((it) => it.replace(/^["\s]+|["\s]+$/g, "")), column = isRead ? at : cells.findIndex((it) => /^none$/i.test(it));
-    const own = (cells[column] ?? "").replace(FILLERS, "").toUpperCase(), others = cells.filter((it, place) => it && place !== column), words = others.slice(0, MOST_OF_ROW).join(" \u00B7 "), isFit = isRead && cells.length === heads.length;
-    const isClear = isFit && (own === "NONE" || A_UID.test(own)) && !ANOTHER.test(others.join("\n")), found = isClear ? [own === "NONE" ? "" : own] : Array.from(line.split(/[,;\t]/).join("\n").matchAll(UIDS), ([it]) => it.replace(FILLERS, "").toUpperCase());
-    const isItem = number !== head && (isRead ? /[^\s,;"]/.test(line) : column >= 0 || isListed && number > 0 && others.length > 1), uids = !isClear && isItem && (!found.length || /none/i.test(line) || isFit && !A_UID.test(own)) ? [...found, ""] : found;
-    return uids.map((uid) => /** @type {[string, string, string, boolean]} */ ([uid, uid && uids.length > 1 ? uid : words || uid || line, others.join(" ") || line, uid !== "" && uids.length === 1]));
+    const own = (cells[column] ?? "").replace(FILLERS, "").toUpperCase(), others = cells.filter((it, place) => it && place !== column), words = others.slice(0, MOST_OF_ROW).join(" \u00B7 ");
+    const isClear = isRead && cells.length === heads.length && (own === "NONE" || A_UID.test(own)) && !ANOTHER.test(others.join("\n")), found = isClear ? [own === "NONE" ? "" : own] : Array.from(line.split(/[,;\t]/).join("\n").matchAll(UIDS), ([it]) => it.replace(FILLERS, "").toUpperCase());
+    const isItem = number !== head && (isRead ? /[^\s,;"]/.test(line) : column >= 0 || isListed && number > 0 && others.length > 1), uids = !isClear && isItem && (!found.length || /none/i.test(line) || isRead && !A_UID.test(own)) ? [...found, ""] : found;
+    return uids.map((uid) => /** @type {Row} */ ([uid, uid && uids.length > 1 ? uid : words || uid || line, others.join("\n") || line, uid !== "" && uids.length === 1, number]));
   });
   // of two items with one UID each is known by its other cells
   const last = new Map(rows.flatMap(([uid, , others, isOwn]) => isOwn ? [[uid, others]] : [])), twice = new Set(rows.flatMap(([uid, , others, isOwn]) => isOwn && last.get(uid) !== others ? uid : []));
-  return twice.size ? rows.map((row) => row[3] && twice.has(row[0]) ? ["", row[1], row[2], false] : row) : rows;
+  return twice.size ? rows.map(([uid, words, others, isOwn, line]) => /** @type {Row} */ (isOwn && twice.has(uid) ? ["", words, others, false, line] : [uid, words, others, isOwn, line])) : rows;
 });
 
 /**
