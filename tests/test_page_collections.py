@@ -1342,6 +1342,9 @@ TAGLESS = {
         [HEAD, EMMA, f"E00401,Map {UID_A:016X},A"], [HEAD, EMMA], "has no row now: Map "),
     "before any had a tag, below a title": (
         ["Books,,", HEAD, "none,Emma,A", "none,Map,A"], [HEAD, EMMA], NO_ROW),
+    "beside one cell more, below a wrong heading": (
+        ["barcode,RFID", f"Emma,{UID_A:016X}", "Map,"], ["barcode,uid", f"Emma,{UID_A:016X}"],
+        "has no row now: Map."),
     "before any had a tag": ([HEAD, "none,Emma,A", "none,Map,A"], [HEAD, EMMA], NO_ROW),
     "of which no UID was known": ([HEAD, EMMA, ",Map,A"], [HEAD, EMMA], NO_ROW),
     "with a UID that is none": ([HEAD, EMMA, "E0040100,Map,A"], [HEAD, EMMA], NO_ROW),
@@ -1605,6 +1608,9 @@ OLDER_THAN_GONE = {
                                    ({"A.log": field(UID_A, asks=2)}, 2)),
     "by itself at first": ((OLD_B, 0), (OLD_A, 1), ({"A.log": field(UID_A, asks=2)}, 2),
                            ({"books.csv": BOTH}, 3)),
+    "a table of a reader, with the name of a log": (
+        ({"books.csv": BOTH}, 2), ({**OLD_A, **OLD_B}, 0),
+        ({"A.csv": b"EPC,RSSI\nE0040100000000B2,-50\n"}, 1), "Back"),
     "no log, with the name by which one counts": (
         ({"books.csv": BOTH, **OLD_B}, 0), ({"scan.log": field(UID_A)}, 0), "Count it as A",
         ({"A.log": b"timeout\n"}, 1), "Back"),

@@ -122,7 +122,7 @@ const rowsIn = (file) => madeOnce(ROWS, file, () => {
     const isRead = separator && number > head, cells = isRead ? cellsOf(line, separator) : line.split(/[,;\t|]/).map((it) => it.replace(/^["\s]+|["\s]+$/g, "")), column = isRead ? at : cells.findIndex((it) => /^none$/i.test(it));
     const own = (cells[column] ?? "").replace(FILLERS, "").toUpperCase(), others = cells.filter((it, place) => it && place !== column), words = others.slice(0, MOST_OF_ROW).join(" \u00B7 ");
     const isClear = isRead && cells.length === heads.length && (own === "NONE" || A_UID.test(own)) && !ANOTHER.test(others.join("\n")), found = isClear ? [own === "NONE" ? "" : own] : Array.from(line.split(/[,;\t]/).join("\n").matchAll(UIDS), ([it]) => it.replace(FILLERS, "").toUpperCase());
-    const isItem = number !== head && (isRead ? /[^\s,;"]/.test(line) : column >= 0 || isListed && number > 0 && others.length > 1), uids = !isClear && isItem && (!found.length || /none/i.test(line) || isRead && !A_UID.test(own)) ? [...found, ""] : found;
+    const isItem = number !== head && (isRead ? /[^\s,;"]/.test(line) : column >= 0 || isListed && number > 0 && others.length > (isBroken(file) ? 1 : 0)), uids = !isClear && isItem && (!found.length || /none/i.test(line) || isRead && !A_UID.test(own)) ? [...found, ""] : found;
     return uids.map((uid) => /** @type {Row} */ ([uid, uid && uids.length > 1 ? uid : words || uid || line, others.join("\n") || line, uid !== "" && uids.length === 1, number]));
   });
   // of two items with one UID each is known by its other cells
@@ -171,7 +171,7 @@ function hereOf(open, { items, unexpected, logs: all }) {
 
 /**
  * Beside which files. A table is compared with those of its kind, if one is here, and otherwise with all; an unfinished file with that which it
- * will be; what has no mark of a log with what has its name. A log is compared with those of its name, and of each place of which it may be: of
+ * will be; what has no mark of a log with what has its name, and so what belongs to no collection. A log is compared with those of its name, and of each place of which it may be: of
  * which these are, of which it was judged, and where what was heard in it belongs; and with those that prove what those of its name don't. One of
  * no place is of the one like which it is called, also as a copy, if all that was heard in it belongs there. It may be of any if none of its name
  * is here but by another, a place of which it was has no log, or it was of none and that of its name isn't any more: but not while all places of
@@ -180,10 +180,10 @@ function hereOf(open, { items, unexpected, logs: all }) {
  * @param {ReturnType<typeof hereOf>} here
  */
 function besideOf(gone, { tables, logs, known, named, at, renamed, without, proving }) {
-  const all = [...tables, ...logs], whole = gone.name.replace(UNFINISHED, ""), isTable = isATable(gone) && (!strangeness(gone) || rowsIn(gone).some(([uid]) => uid));
+  const all = [...tables, ...logs], whole = gone.name.replace(UNFINISHED, ""), isTable = isATable(gone) && (!strangeness(gone) || rowsIn(gone).some(([uid]) => uid)), called = strangeness(gone) ? all.filter(({ name, file }) => [name, file.name].map(rootOf).includes(rootOf(gone.name))) : [];
   const its = isTable ? tables.filter(({ file }) => isPlaces(file) === isPlaces(gone)) : whole === gone.name ? [] : all.filter(({ file }) => !file.was && file.name === whole);
-  if (its.length || isTable) return its.length ? its : all;
-  if (!JUDGED.has(gone.id)) return strangeness(gone) && !MARK.test(startOf(gone)) ? all.filter(({ name, file }) => [name, file.name].map(rootOf).includes(rootOf(gone.name))) : /^vicinity-log /.test(startOf(gone)) ? logs : all;
+  if (its.length || isTable) return its.length ? [...new Set([...its, ...called])] : all;
+  if (!JUDGED.has(gone.id)) return strangeness(gone) && !MARK.test(startOf(gone)) ? called : /^vicinity-log /.test(startOf(gone)) ? logs : all;
   const own = bareOf(gone.name), heard = heardIn(gone), homes = heard.map((uid) => known.get(uid)?.place ?? null), of = heard.length && homes.every((it) => it === uncopied(own)) ? uncopied(own) : null;
   const judged = [...JUDGED.get(gone.id) ?? []].map((place) => place ?? of), alike = new Set([...(named.get(own) ?? []).map(({ it }) => it), ...of && at.get(of) || []]);
   if (!alike.size && judged.length && judged.every((it) => without.has(it))) return [];
