@@ -13,9 +13,9 @@ import { STOPPED } from "./work.mjs";
 /** @typedef {{tables: Entry[], logs: Entry[], both: string[], left: Left[]}} Collection with what was answered of its files */
 /**
  * A log, or a collection, with what was done to it last; or one that waits for its catalogue. Of a file it has by what that is known, when it
- * was changed, and its own name, if it took another; of one by itself, what isn't here any more, and what was answered.
+ * was changed, and its own name, if it took another, and whether it was left out at once; of one by itself, what isn't here any more, and what was answered.
  * @typedef {Given & import("./work.mjs").Done & {id: number, given?: Collection, waits?: string, note?: string,
- *   said?: import("./say/say.mjs").Said, changed?: number, was?: string, left?: Left[], both?: string[], made?: string}} Entry
+ *   said?: import("./say/say.mjs").Said, changed?: number, was?: string, left?: Left[], both?: string[], made?: string, isOut?: boolean}} Entry
  */
 
 /** Larger files are no logs, and no text for each browser. */
@@ -90,6 +90,7 @@ export function gathered(taken, all) {
   const names = before.flatMap((it) => [it, ...surveyedIn(it).map((name) => ({ name }))]);
   const isKnown = (/** @type {Entry} */ it) => isWhole || known.includes(it), out = taken.filter((it) => !isKnown(it) && !sameAs([it], names).length);
   const rest = taken.filter((it) => !out.includes(it)).map((it) => isKnown(it) || !isATable(it) ? it : { ...it, text: new Uint8Array(), error: NO_LOG });
+  for (const it of taken) it.isOut = !isKnown(it);
   const left = leftAs(out, outAs), said = wasEach(left).join(" ");
   if (earlier && !rest.length) return [collected({ ...earlier, left: [...past, ...left] }, `${said} The collection is still here.`)];
   const tables = rest.filter(isATable), logs = rest.filter((it) => !isATable(it));
@@ -174,6 +175,7 @@ function joined(here, tables, logs, note) {
  */
 export function without({ tables, logs, both, left }, gone, kept, object) {
   const of = (/** @type {string | undefined} */ name) => object?.logs.find((log) => log.name === name), [{ name }] = gone, out = leftAs(gone, "left out");
+  for (const it of gone) it.isOut = strangeness(it) !== "";
   const others = (/** @type {Entry[]} */ list) => list.filter((it) => !gone.includes(it)), takes = of(kept)?.left_over && of(name)?.place;
   const rest = { tables: others(tables), both, left: [...left, ...out], logs: calledAs(others(logs), takes && kept ? [[kept, name]] : []) };
   return rest.tables.length ? [collected(rest, [...wasEach(out), ...asOthers(rest.logs, takes ? [name] : [])].join(" "))]

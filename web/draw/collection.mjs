@@ -2,7 +2,7 @@
 import { grouped } from "../judge/groups.mjs";
 import { KIND } from "../judge/objects.mjs";
 import { SENTENCES } from "../say/sentences.mjs";
-import { firstOf, inOrder, MOST_LISTED, nameOf } from "../say/shelves.mjs";
+import { firstOf, MOST_LISTED, nameOf } from "../say/shelves.mjs";
 import { conditionsOf, sayAll, summaryOf } from "../say/summary.mjs";
 import { granted, missed, TO_KNOW } from "../say/sure.mjs";
 import { count, dated, printable } from "../say/words.mjs";

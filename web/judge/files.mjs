@@ -47,6 +47,17 @@ export function utf8Of(text, isStart = false) {
 export const isBroken = ({ text }) => codingOf(text) !== "" && utf8Of(text) === text;
 
 /**
+ * The text of a file in whatever coding, also of one that isn't read.
+ * @param {Given} file
+ */
+export function textOf({ text }) {
+  const coding = codingOf(text);
+  try {
+    return new TextDecoder(coding || "utf-8", { fatal: !coding }).decode(text).replace(/\0/g, "");
+  } catch { return new TextDecoder("windows-1252").decode(text).replace(/\0/g, ""); }
+}
+
+/**
  * The SHA-256 of a file; empty where it can't be had.
  * @param {Uint8Array} text
  */
@@ -56,8 +67,11 @@ export const sumOf = async (text) => !globalThis.crypto?.subtle ? ""
 /** @param {Given} file */
 export const startOf = ({ text }) => new TextDecoder("utf-8", { ignoreBOM: true }).decode(utf8Of(text.subarray(0, MOST_SEEN), true));
 
-/** @param {Given} file */
-const headsOf = ({ text }) => columnsIn(new TextDecoder().decode(utf8Of(text.subarray(0, MOST_OF_HEADS), true)).split(/\r?\n/, 1)[0]).heads;
+/**
+ * The columns of a table, folded, if its first line has them.
+ * @param {Given} file
+ */
+export const headsOf = ({ text }) => columnsIn(new TextDecoder().decode(utf8Of(text.subarray(0, MOST_OF_HEADS), true)).split(/\r?\n/, 1)[0]).heads;
 
 /**
  * Whether a table says which UIDs items have, and whether it says which logs are of which place.
@@ -71,8 +85,8 @@ export const hasUids = (file) => headsOf(file).includes("uid"), isPlaces = (/** 
  * @param {string} separator
  */
 export function cellsOf(line, separator) {
-  const found = Array.from(line.matchAll(CELLS[separator]));
-  return found.map(([all]) => all).join("") !== line ? [] : found.map(([, cell]) => (cell[0] === '"' ? cell.slice(1, -1).replace(/""/g, '"') : cell).replace(/^[ \t]+|[ \t]+$/g, ""));
+  const found = Array.from(line.matchAll(CELLS[separator])), cells = line === "" || line.endsWith(separator) ? found : found.slice(0, -1);
+  return cells.map(([all]) => all).join("") !== line ? [] : cells.map(([, cell]) => (cell[0] === '"' ? cell.slice(1, -1).replace(/""/g, '"') : cell).replace(/^[ \t]+|[ \t]+$/g, ""));
 }
 
 /**
