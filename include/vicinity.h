@@ -38,8 +38,8 @@ extern "C" {
 #define VICINITY_INTERFACE 2u
 
 /* The version of this header, as text and as a number like that of vicinity_version(). */
-#define VICINITY_VERSION "2.0.7"
-#define VICINITY_VERSION_NUMBER 20007u
+#define VICINITY_VERSION "2.0.8"
+#define VICINITY_VERSION_NUMBER 20008u
 
 /*
  * What a call that judges returns: the exit status of `vicinity check`. It is neither true nor

@@ -2,6 +2,6 @@ module vicinity-check
 
 go 1.19
 
-require vicinity/v2 v2.0.7
+require vicinity/v2 v2.0.8
 
 replace vicinity/v2 => ../../bindings/go

@@ -13,7 +13,7 @@ It is loaded on the first call; LIBVICINITY may name its file.
 `python3 -m vicinity show LOG` and `page LOG` draw one;
 `python3 -m vicinity collection CATALOGUE LOG ..` compares many with what should be there.
 """
-__version__ = "2.0.7"
+__version__ = "2.0.8"
 
 from ._answers import (Answer, Explanation, Fault, Finding, FindingKind, Kind, Margin, Mask, Report,
                        Simulation, Weakest)

@@ -36,7 +36,7 @@ pub extern "C" fn vicinity_interface() -> u32
 /// The version of this library: 10,000 times its first number, 100 times its second, and its third.
 #[unsafe(no_mangle)]
 pub extern "C" fn vicinity_version() -> u32
-    ensures { result ≡ 20007 }
+    ensures { result ≡ 20008 }
 {
-    20_007
+    20_008
 }
