@@ -1397,6 +1397,8 @@ TAGLESS = {
         ["RFID;title;place", "1.6E+19;Emma;A", "1.6E+19;Map;A"], [HEAD, EMMA], "Map \u00B7 A."),
     "of a list without columns": (
         [f"{UID_A:016X}", f"{UID_B:016X}"], [HEAD, EMMA], f"no row now: {UID_B:016X}."),
+    "with two UIDs in a cell": (["uid", f"{UID_A:016X}{UID_B:016X}"], ["uid", f"{UID_A:016X}"],
+                                f"no row now: {UID_A:016X}{UID_B:016X}."),
     "below headings of another separator": (
         [HEAD, EMMA.replace(",", ";"), "none;Map;A"],
         [it.replace(",", ";") for it in (HEAD, EMMA, "none,Map,A")], ""),

@@ -5,9 +5,9 @@ import { grouped, madeOnce } from "./judge/groups.mjs";
 /** @typedef {import("./opened.mjs").Entry} Entry */
 /** @typedef {import("./judge/objects.mjs").CollectionObject} CollectionObject */
 /**
- * A line of a catalogue: the UID by which it is known, empty if none is sure, and all UIDs in it; its other cells, how many of them are shown,
- * and once they are asked for, the words in them; all of it; and whether it may be one of headings.
- * @typedef {{uid: string, uids: string[], cells: string[], most: number, words?: string, line: string, mayBeHeads: boolean}} Row
+ * A line of a catalogue: the UID by which it is known, empty if none is sure; UIDs that are its own, and all in it; its other cells, how many of
+ * them are shown, and once they are asked for, the words in them; all of it; and whether it may be one of headings.
+ * @typedef {{uid: string, own: string[], uids: string[], cells: string[], most: number, words?: string, line: string, mayBeHeads: boolean}} Row
  */
 
 /** Within how many lines the headings are; how many cells show which row one is, and one of which it isn't known where its cells end. */
@@ -62,8 +62,9 @@ export function lostIn({ items, unexpected }, now, before) {
 }
 
 /**
- * The rows of a catalogue of which none is here, and no log tells. One is known by its UID; if that isn't sure, as many are here as there are
- * others of the same words, first those of which all is the same: with no UID, or one that the catalogue hasn't, or one in this line.
+ * The rows of a catalogue of which none is here, and no log tells. One is known by its UID. If that isn't sure, all that may be its own have to be
+ * known, and as many are here as there are others of the same words, first those of which all is the same: with no UID, or one that the catalogue
+ * hasn't, or one in this line.
  * @param {Row[]} all
  * @param {Entry[]} now
  * @param {Set<string>} known
@@ -71,10 +72,10 @@ export function lostIn({ items, unexpected }, now, before) {
 function goneOf(all, now, known) {
   const heads = new Set(now.flatMap(headsOf)), rows = all.filter(({ cells, mayBeHeads }) => !mayBeHeads || !cells.some((cell) => heads.has(cell.toLowerCase())));
   if (rows.every(({ uid }) => uid)) return rows.filter(({ uid }) => !known.has(uid));
-  const own = new Set(rows.map(({ uid }) => uid)), named = new Set(rows.flatMap(({ uids }) => uids)), here = now.flatMap(rowsIn).filter(({ uid }) => !uid || !own.has(uid));
+  const sure = new Set(rows.map(({ uid }) => uid)), named = new Set(rows.flatMap(({ uids }) => uids)), here = now.flatMap(rowsIn).filter(({ uid }) => !uid || !sure.has(uid));
   const lines = new Set(here.map(({ line }) => line)), left = grouped(here, (row) => `${named.has(row.uid) ? row.uid : ""} ${wordsOf(row)}`);
   return [true, false].flatMap((isSame) => rows.filter(({ line }) => lines.has(line) === isSame))
-    .filter((row) => row.uid ? !known.has(row.uid) : ![...row.uids, ""].some((it) => left.get(`${it} ${wordsOf(row)}`)?.pop()));
+    .filter((row) => !row.own.every((it) => known.has(it)) || !row.uid && ![...row.uids, ""].some((it) => left.get(`${it} ${wordsOf(row)}`)?.pop()));
 }
 
 /**
@@ -101,9 +102,9 @@ const rowsIn = (file) => madeOnce(ROWS, file, () => {
  * @returns {Row}
  */
 function readRow(line, { separator, heads }, mayBeHeads) {
-  const read = separator ? cellsOf(line, separator) : [], at = heads.indexOf("uid"), its = digitsOf(read[at] ?? ""), uids = uidsIn(line);
-  const isRead = read.length === heads.length || read.length < heads.length && A_UID.test(its), isOnly = !separator && uids.length === 1 && line.search(NONE) < 0;
-  const all = isRead ? read : line.split(/[,;\t|]/).map((cell) => cell.replace(/^["\s]+|["\s]+$/g, "")), own = isRead ? its : isOnly ? uids[0] : "";
-  const cells = all.filter((cell, place) => cell && !(isRead && place === at) && !/^none$/i.test(cell));
-  return { uid: A_UID.test(own) ? own : "", uids, cells, most: isRead ? MOST_TOLD : MOST_OF_LINE, line, mayBeHeads };
+  const read = separator ? cellsOf(line, separator) : [], at = heads.indexOf("uid"), its = read[at] ?? "", digits = digitsOf(its), uids = uidsIn(line);
+  const isRead = read.length === heads.length || read.length < heads.length && A_UID.test(digits), isOnly = !separator && uids.length === 1 && line.search(NONE) < 0;
+  const all = isRead ? read : line.split(/[,;\t|]/).map((cell) => cell.replace(/^["\s]+|["\s]+$/g, "")), uid = isOnly ? uids[0] : isRead && A_UID.test(digits) ? digits : "";
+  const cells = all.filter((cell, place) => cell && !(isRead && place === at) && !/^none$/i.test(cell)), own = uid ? [uid] : isRead ? uidsIn(its) : uids;
+  return { uid, own, uids, cells, most: isRead ? MOST_TOLD : MOST_OF_LINE, line, mayBeHeads };
 }

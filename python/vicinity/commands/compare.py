@@ -95,8 +95,8 @@ def _answer(fields: Object, name_of: Callable[[str], str]) -> Answer:
 
 def _field(log: Object) -> str:
     """What is said of a log."""
-    place = f", of {log['place']}" if log["place"] else ", left over" if log["left_over"] else ""
-    return f"{log['field']}{', not to its end' if log.get('open') else ''}{place}"
+    return "{field}{}{}".format(", not to its end" if log.get("open") else "",
+                                ", left over" if log["left_over"] else "", **log)
 
 
 def _sure(log: Object) -> Iterator[tuple[str, tuple[int, str]]]:
