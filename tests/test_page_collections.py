@@ -1307,15 +1307,18 @@ def test_a_row_is_known_by_its_own_cell(page, how):
     drop(page, {"books.csv": BOTH}, {"books.csv": NOON + HOUR})
     page.until("h1", "but 1 item of a table that was here has no row now: ")
     drop(page, {"books.csv": BOTH + b"E0040100000000C3,Kim,A\n"}, {"books.csv": NOON + 2 * HOUR})
-    # of a line in which a row may have no UID, all stays in doubt
-    more = ("; 1 item of a table that was here has no row now: E0040100000000A1 \u00B7 Emma \u00B7 "
-            "AE0040100000000C3 \u00B7 Kim \u00B7 A")
-    assert page.texts("h1") == [f"1 item missing (Kim, of A){more * ('two' in how)}."]
+    # of a line in which there may be several rows, or that says something else now, it is asked
+    more = {"two rows in a line": f"{UID_A:016X} \u00B7 Emma \u00B7 A{UID_C:016X} \u00B7 Kim "
+                                  "\u00B7 A",
+            "refused": f"{UID_A:016X} \u00B7 A"}.get(how)
+    asked = f"; 1 item of a table that was here has no row now: {more}" if more else ""
+    assert page.texts("h1") == [f"1 item missing (Kim, of A){asked}."]
 
 
 # A catalogue with rows of items that have no tag, behind that of Emma, and a later one; and what is
 # said of these.
-HEAD, EMMA, NO_ROW = "uid,title,place", f"{UID_A:016X},Emma,A", "has no row now: Map \u00B7 A."
+HEAD, EMMA, A_ROW = "uid,title,place", f"{UID_A:016X},Emma,A", "row now: Map \u00B7 A"
+NO_ROW = f"{A_ROW}."
 TAGLESS = {
     "gone": ([HEAD, EMMA, "none,Map,A"], [HEAD, EMMA], NO_ROW),
     "one of two": ([HEAD, EMMA, "none,Map,A", "NONE,Map,A"], [HEAD, EMMA, "none,Map,A"], NO_ROW),
@@ -1357,7 +1360,7 @@ TAGLESS = {
         [f"{HEAD},number", f"{EMMA},1", f"{UID_B:016X},Map,A,9"], NO_ROW),
     "in the box of another": (
         [f"{HEAD},box", f"{EMMA},", "none,Map,A,E0:04:01:00:00:00:00:A1"],
-        [f"{HEAD},box", f"{EMMA},"], NO_ROW),
+        [f"{HEAD},box", f"{EMMA},"], A_ROW),
     "with the UID of another in its title": (
         [HEAD, EMMA, f"none,Map {UID_A:016X},A"], [HEAD, EMMA], "has no row now: Map "),
     "behind a line break that was lost": (
@@ -1374,16 +1377,16 @@ TAGLESS = {
         [HEAD, f"{UID_A:016X},Map,A", f"{UID_B:016X},Map,A"], NO_ROW),
     "beside one whose note names another": (
         [f"{HEAD},note", f"{UID_A:016X},Map,A,with {UID_B:016X}", "none,Map,A,"],
-        [f"{HEAD},note", f"{UID_A:016X},Map,A,"], NO_ROW),
+        [f"{HEAD},note", f"{UID_A:016X},Map,A,"], f"{A_ROW} \u00B7 with {UID_B:016X} and Map"),
     "whose note names one that is called alike": (
         [f"{HEAD},note", f"{UID_A:016X},Map,A,", f"none,Map,A,{UID_A:016X}"],
-        [f"{HEAD},note", f"{UID_A:016X},Map,A,"], NO_ROW),
+        [f"{HEAD},note", f"{UID_A:016X},Map,A,"], A_ROW),
     "with the UID of another, which has a label, too": (
         [f"{HEAD},label", f"{EMMA},{UID_A:016X}", f"{UID_A:016X},Map,A,{UID_A:016X}"],
-        [HEAD, EMMA], NO_ROW),
+        [HEAD, EMMA], A_ROW),
     "with a tag that is broken in a note": (
         [f"{HEAD},note", f"{EMMA},", f"none,Map,A,old tag {UID_C:016X}"],
-        [f"{HEAD},note", f"{EMMA},"], NO_ROW),
+        [f"{HEAD},note", f"{EMMA},"], A_ROW),
     "in the line of another": ([HEAD, EMMA, "none,Map,A,none,Kim,A"], [HEAD, EMMA],
                                "no row now: Map \u00B7 A \u00B7 Kim \u00B7 A."),
     "in the line of a tagged one": (
@@ -1397,8 +1400,29 @@ TAGLESS = {
         ["RFID;title;place", "1.6E+19;Emma;A", "1.6E+19;Map;A"], [HEAD, EMMA], "Map \u00B7 A."),
     "of a list without columns": (
         [f"{UID_A:016X}", f"{UID_B:016X}"], [HEAD, EMMA], f"no row now: {UID_B:016X}."),
-    "with two UIDs in a cell": (["uid", f"{UID_A:016X}{UID_B:016X}"], ["uid", f"{UID_A:016X}"],
-                                f"no row now: {UID_A:016X}{UID_B:016X}."),
+    "with another UID in its cell": (["uid", f"{UID_B:016X}{UID_A:016X}"], ["uid", f"{UID_A:016X}"],
+                                     f"no row now: {UID_B:016X}{UID_A:016X}."),
+    "above the headings": ([f"{UID_B:016X},Map,A,torn", f"{HEAD},note", f"{EMMA},"], [HEAD, EMMA],
+                           NO_ROW),
+    "without a tag above the headings": (["none,Map,A", HEAD, EMMA], [HEAD, EMMA], NO_ROW),
+    "joined to one that is shorter than the headings": (
+        [f"{HEAD},year,note,x", f"{EMMA}{UID_B:016X},Map,A"], [HEAD, EMMA], "Map \u00B7 A."),
+    "without a tag, joined to one that is shorter": (
+        [f"{HEAD},year,note,x", f"{EMMA}none,Map,A"], [HEAD, EMMA], "Map \u00B7 A."),
+    "joined to the headings": ([f"{HEAD}none,Map,A", EMMA], [HEAD, EMMA], "Map \u00B7 A."),
+    "without a UID, joined to the headings": (
+        [f"{HEAD},Map,A", EMMA, ",Kim,A"], [HEAD, EMMA, "none,Kim,A"], "Map \u00B7 A."),
+    "between quotes that aren't closed": (
+        [HEAD, f'{UID_A:016X},"Emma,A', 'none,Map",A'], [HEAD, EMMA], "Map \u00B7 A."),
+    "in a table beside the other": (
+        [f"{HEAD},tag,name,shelf", f"{EMMA},none,Map,A", f"{UID_C:016X},Kim,A,{UID_B:016X},Map,A"],
+        [HEAD, EMMA], f"Emma \u00B7 A \u00B7 Map \u00B7 A and Kim \u00B7 A \u00B7 {UID_B:016X}"),
+    "below a wrong heading, with a note of another": (
+        ["RFID,title,place,note", f"{EMMA},", f",Map,A,with {UID_A:016X}"],
+        [f"{HEAD},note", f"{EMMA},"], A_ROW),
+    "in the first line, away": ([",Map,A,away", f"{EMMA},"], [f"{HEAD},away", f"{EMMA},"], A_ROW),
+    "below a title and a wrong heading": (
+        ["Books,,", "RFID,title,place", EMMA, ",Map,A"], [HEAD, EMMA], "but 1 item of a table"),
     "below headings of another separator": (
         [HEAD, EMMA.replace(",", ";"), "none;Map;A"],
         [it.replace(",", ";") for it in (HEAD, EMMA, "none,Map,A")], ""),
@@ -1432,7 +1456,18 @@ def test_a_row_of_an_item_without_a_tag_is_not_forgotten(page, how):
         drop(page, {"books.csv": text, "A.log": field(UID_A)},
              {"books.csv": NOON + number, "A.log": NOON})
     (headline,) = page.texts("h1")
-    assert words in headline if words else "no row now" not in headline
+    assert words in headline if words else "no row now" not in headline, headline
+
+
+@pytest.mark.parametrize("is_back", [True, False])
+def test_a_row_of_a_catalogue_that_a_button_left_out(page, is_back):
+    drop(page, {"books.csv": b"RFID,title,place\nE0040100000000A1,Emma,A\nnone,Map,A\n",
+                "A.log": field(UID_A)})
+    pressed(page, "Leave out books.csv")
+    if is_back:
+        page.press("#back")
+    drop(page, {"books.csv": f"{HEAD}\n{EMMA}\n".encode()})
+    page.until("h1", f"but 1 item of a table that was here has no {A_ROW}.")
 
 
 def test_a_row_that_was_here_again_is_asked_about_again(page):
@@ -1516,6 +1551,7 @@ def pressed(page, words):
 # What is opened, so many hours after noon, or pressed, until files are here that are older than
 # one that isn't here any more; and until none are.
 TABLES = {"books.csv": BOTH, "places.csv": b"place,log\nA,A\nB,B\n"}
+NO_PLACES = books((UID_A, ""), (UID_B, ""), (UID_C, ""), head="uid,title")
 OLD_A, NEW_A, OLD_B = {"A.log": field(UID_A)}, {"A.log": field()}, {"B.log": field(UID_B)}
 CUT = b"vicinity-survey 1 A.log\npossible\n"
 OLDER_THAN_GONE = {
@@ -1664,7 +1700,15 @@ OLDER_THAN_GONE = {
     "a catalogue in UTF-16 without its mark": (
         (COMPLETE, 0), ({"export.csv": BOTH.decode().encode("utf-16-le")}, 1)),
     "a table of places, of which none is here": (
-        (COMPLETE, 0), ({"places.csv": b"place,log\nA,A\nB,B\nC,C\n"}, 1), "Back")}
+        (COMPLETE, 0), ({"places.csv": b"place,log\nA,A\nB,B\nC,C\n"}, 1), "Back"),
+    "of no place, where there are none any more": (
+        ({"books.csv": books(*[(uid, ",any") for uid in (UID_A, UID_B, UID_C)]),
+          "scan.log": field(UID_A), "B.log": field(UID_B, UID_C)}, 0),
+        ({"scan.log": field()}, 1), ({"scan.log": field(UID_A, asks=2)}, 2),
+        ({"books.csv": NO_PLACES}, 3)),
+    "without places, of a tag that no log has now": (
+        ({"books.csv": NO_PLACES, "scan.log": field(UID_A), "B.log": field(UID_B, UID_C)}, 0),
+        ({"scan.log": field(0xE0040100000000D4)}, 1), ({"scan.log": field(UID_A, asks=2)}, 2))}
 NO_OLDER = {
     "counted again": ((COMPLETE, 0), (NEW_A, 1), ({"A.log": field(UID_A, asks=2)}, 2), (OLD_A, 3)),
     "opened once more": ((COMPLETE, 0), (COMPLETE, 0)),

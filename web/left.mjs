@@ -93,7 +93,7 @@ export function putAges(object, { tables, logs }, away) {
     if (read.length) JUDGED.set(file.id, new Set([...[...JUDGED.get(file.id) ?? []].filter((place) => place !== null), ...places.map(({ into }) => into.place)]));
   }
   put([...tables.map((file, at) => ({ into: object.files[at], file, name: file.name })), ...ofLogs], away, object);
-  object.lost = lostIn(object, tables.filter(isCatalogue), away.filter((it) => isCatalogue(it) || isNeither(it)));
+  object.lost = lostIn(object, tables.filter(isCatalogue)[0], away.filter((it) => isCatalogue(it) || isNeither(it)));
 }
 
 /**
@@ -147,8 +147,9 @@ function comparing(open, { items, unexpected, logs: all, without_log }) {
     const judged = JUDGED.get(gone.id), own = (named.get(bareOf(gone.name)) ?? []).map(({ it }) => it), heard = heardIn(gone);
     if (!judged) return strangeness(gone) && !MARK.test(startOf(gone)) ? called : /^vicinity-log /.test(startOf(gone)) ? logs : open;
     const alone = heard.map((uid) => proved.get(uid) ?? []).filter((its) => its.every(({ file }) => ageOf(file) < ageOf(gone))).flat();
-    const isKnown = [...judged].every((place) => place === null ? own.some(({ into }) => into.place === null) : places.has(place));
-    if (judged.size) return isKnown ? [...own, ...[...judged].flatMap((place) => at.get(place) ?? []), ...alone] : logs;
-    return isPlaced || kindOf(gone) === "surveys" || !own.length || !heard.length || alone.some((it) => !own.includes(it)) ? logs : own;
+    const isKnown = [...judged].every((place) => place === null ? isPlaced && own.some(({ into }) => into.place === null) : places.has(place));
+    if (judged.size && isKnown) return [...own, ...[...judged].flatMap((place) => at.get(place) ?? []), ...alone];
+    const isOwn = heard.length > 0 && heard.every((uid) => proved.get(uid)?.some((it) => own.includes(it)));
+    return isPlaced || kindOf(gone) === "surveys" || !isOwn ? logs : own;
   };
 }

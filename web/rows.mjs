@@ -1,35 +1,27 @@
 /** Items of catalogues that aren't open any more, of which no open one has a row. */
-import { cellsOf, columnsIn, headsOf, isSpreadsheet, kindOf, startOf, textOf } from "./judge/files.mjs";
+import { cellsOf, columnsIn, isSpreadsheet, kindOf, startOf, textOf } from "./judge/files.mjs";
 import { grouped, madeOnce } from "./judge/groups.mjs";
 
 /** @typedef {import("./opened.mjs").Entry} Entry */
 /** @typedef {import("./judge/objects.mjs").CollectionObject} CollectionObject */
 /**
- * A line of a catalogue: the UID by which it is known, empty if none is sure; UIDs that are its own, and all in it; its other cells, how many of
- * them are shown, and once they are asked for, the words in them; all of it; and whether it may be one of headings.
- * @typedef {{uid: string, own: string[], uids: string[], cells: string[], most: number, words?: string, line: string, mayBeHeads: boolean}} Row
+ * A row, or a line that may be one: its UIDs, and whether it is known by them alone; its other cells, how many of these are shown, and once they
+ * are asked for, the words in them; whether there is an item in it for sure.
+ * @typedef {{uids: string[], isSure: boolean, cells: string[], most: number, words?: string, isItem: boolean}} Row
  */
 
 /** Within how many lines the headings are; how many cells show which row one is, and one of which it isn't known where its cells end. */
 const MOST_BEFORE = 9, MOST_TOLD = 2, MOST_OF_LINE = 12;
-/** A UID; what isn't read between its digits; one in a text; and what says that there is none. */
-const A_UID = /^E0[0-9A-F]{14}$/, FILLERS = /[ \t:-]/g, UIDS = /E[ :-]*0(?:[ :-]*[0-9A-F]){14}/gi, NONE = /\bnone\b/gi, ITEM = RegExp(`${UIDS.source}|${NONE.source}`, "gi"), A_WORD = /[\p{L}\p{M}\p{N}]+/gu;
-const ROWS = /** @type {WeakMap<Entry, Row[]>} */ (new WeakMap());
-
-/** @param {string} text */
-const digitsOf = (text) => text.replace(FILLERS, "").toUpperCase();
+/** A UID in a text, what isn't read between its digits, and what may be meant for one; what says that there is a row; a word. */
+const UIDS = /E[ :-]*0(?:[ :-]*[0-9A-F]){14}(?![0-9A-F])/gi, A_UID = /^E0[0-9A-F]{14}$/i, FILLERS = /[ \t:-]/g, MEANT = /^[0-9A-FO\s:.,+-]{0,24}$/i, ITEM = RegExp(`${UIDS.source}|none`, "gi"), A_WORD = /[\p{L}\p{M}\p{N}]+/gu;
+/** The rows of catalogues as the library has read them, and the lines of others. */
+const READ = /** @type {WeakMap<Entry, Row[]>} */ (new WeakMap()), UNREAD_LINES = /** @type {WeakMap<Entry, Row[]>} */ (new WeakMap());
 
 /**
  * The UIDs in a text, each once.
  * @param {string} text
  */
-const uidsIn = (text) => [...new Set(text.match(UIDS)?.map(digitsOf))];
-
-/**
- * By what a row is known that has no UID, or of which that isn't sure.
- * @param {Row} row
- */
-const wordsOf = (row) => row.words ??= (row.cells.join("\n").normalize("NFC").replace(ITEM, " ").match(A_WORD) ?? []).join(" ");
+const uidsIn = (text) => [...new Set(text.match(UIDS)?.map((uid) => uid.replace(FILLERS, "").toUpperCase()))];
 
 /**
  * The lines of a table; two are one if a quote is open between them.
@@ -48,63 +40,75 @@ function recordsIn(text) {
 export const namesUids = (file) => textOf(file).search(UIDS) >= 0;
 
 /**
- * The items that are lost with catalogues that were here before, and by what that is known.
+ * All that a row says but its UIDs.
+ * @param {Row} row
+ */
+const wordsOf = (row) => row.words ??= (row.cells.join("\n").normalize("NFC").replace(ITEM, " ").match(A_WORD) ?? []).join(" ");
+
+/**
+ * The items that are lost with files that were here before, and by what that is known.
  * @param {CollectionObject} object
- * @param {Entry[]} now
+ * @param {Entry} catalogue
  * @param {Entry[]} before
  */
-export function lostIn({ items, unexpected }, now, before) {
+export function lostIn({ items, unexpected, columns }, catalogue, before) {
+  const own = columns.findIndex((head) => /^[ \t]*uid[ \t]*$/i.test(head)), heads = new Set(columns.map((head) => head.trim().toLowerCase()));
+  const here = madeOnce(READ, catalogue, () => items.map(({ uid, cells = [] }) => ({ uids: uid ? [uid] : [], isSure: uid !== null, isItem: true, most: MOST_TOLD,
+    cells: cells.filter((cell, at) => cell && at !== own) })));
   const known = new Set((before.length ? [...items, ...unexpected] : []).map(({ uid }) => uid ?? ""));
-  const files = before.map((file) => ({ file, lost: goneOf(rowsIn(file), now, known) })).filter(({ lost }) => lost.length);
-  const rows = new Map(files.flatMap(({ lost }) => [...grouped(lost, ({ uid, line }) => uid || line)].flatMap(([key, its]) =>
-    its.map(({ cells, most, line }, nth) => /** @type {[string, string]} */ ([`${key} ${nth}`, cells.slice(0, most).join(" \u00B7 ") || line])))));
+  const files = before.map((file) => ({ file, lost: goneOf(READ.get(file) ?? linesOf(file, here, heads), here, known) })).filter(({ lost }) => lost.length);
+  const rows = new Map(files.flatMap(({ lost }) => [...grouped(lost, (row) => `${row.uids} ${wordsOf(row)}`)].flatMap(([key, its]) =>
+    its.map(({ cells, most, uids }, nth) => /** @type {[string, string]} */ ([`${key} ${nth}`, cells.slice(0, most).join(" \u00B7 ") || `${uids}`])))));
   return { rows: [...rows.values()], key: `${files.map(({ file }) => file.id)}: ${[...rows.keys()]}`, names: [...new Set(files.map(({ file }) => file.name))] };
 }
 
 /**
- * The rows of a catalogue of which none is here, and no log tells. One is known by its UID. If that isn't sure, all that may be its own have to be
- * known, and as many are here as there are others of the same words, first those of which all is the same: with no UID, or one that the catalogue
- * hasn't, or one in this line.
- * @param {Row[]} all
- * @param {Entry[]} now
+ * Rows of which none is here, and no log tells. All their UIDs have to be known. If one isn't known by these alone, a row that says the same has
+ * to be here for it: with one of its UIDs, which may say more, with a new one, or with none.
+ * @param {Row[]} rows
+ * @param {Row[]} here
  * @param {Set<string>} known
  */
-function goneOf(all, now, known) {
-  const heads = new Set(now.flatMap(headsOf)), rows = all.filter(({ cells, mayBeHeads }) => !mayBeHeads || !cells.some((cell) => heads.has(cell.toLowerCase())));
-  if (rows.every(({ uid }) => uid)) return rows.filter(({ uid }) => !known.has(uid));
-  const sure = new Set(rows.map(({ uid }) => uid)), named = new Set(rows.flatMap(({ uids }) => uids)), here = now.flatMap(rowsIn).filter(({ uid }) => !uid || !sure.has(uid));
-  const lines = new Set(here.map(({ line }) => line)), left = grouped(here, (row) => `${named.has(row.uid) ? row.uid : ""} ${wordsOf(row)}`);
-  return [true, false].flatMap((isSame) => rows.filter(({ line }) => lines.has(line) === isSame))
-    .filter((row) => !row.own.every((it) => known.has(it)) || !row.uid && ![...row.uids, ""].some((it) => left.get(`${it} ${wordsOf(row)}`)?.pop()));
+function goneOf(rows, here, known) {
+  if (rows.every(({ isSure }) => isSure)) return rows.filter(({ uids }) => !uids.every((uid) => known.has(uid)));
+  const named = new Set(rows.flatMap(({ uids }) => uids)), left = grouped(here, (row) => `${row.uids.find((uid) => named.has(uid)) ?? ""} ${wordsOf(row)}`);
+  const said = new Map(here.flatMap((row) => row.uids.map((uid) => [uid, wordsOf(row)])));
+  const isHere = (/** @type {Row} */ row, words = wordsOf(row)) => [...row.uids, ""].some((uid) => left.get(`${uid} ${words}`)?.pop()) ||
+    row.uids.some((uid) => `${said.get(uid)} `.startsWith(words && `${words} `) && left.get(`${uid} ${said.get(uid)}`)?.pop());
+  return rows.filter((row) => !row.uids.every((uid) => known.has(uid)) || !row.isSure && !isHere(row));
 }
 
 /**
- * The rows of a catalogue: all lines below its headings in which there are words, or all that there are. Of a file that was no catalogue here
- * only its UIDs count.
+ * The lines of a table that the library hasn't read, but titles above all others, and headings that are here but for one. Of a file that wasn't
+ * the catalogue, and has no row that is here, only its UIDs count.
  * @param {Entry} file
+ * @param {Row[]} here
+ * @param {Set<string>} heads
  */
-const rowsIn = (file) => madeOnce(ROWS, file, () => {
-  const text = textOf(file), lines = recordsIn(text), head = lines.slice(0, MOST_BEFORE).findIndex((line) => columnsIn(line).separator && line.search(ITEM) < 0);
-  if (kindOf(file) !== "table" || file.isOut || isSpreadsheet(startOf(file)) || startOf(file).startsWith("%PDF")) return uidsIn(text).map((uid) => readRow(uid, columnsIn("uid"), false));
-  const columns = columnsIn(lines[head] ?? ""), rows = lines.slice(head + 1).flatMap((line, at) => line.search(A_WORD) < 0 ? [] : readRow(line, columns, head < 0 && at === 0 && line.search(ITEM) < 0));
-  // of two items with one UID each is known by its other words
-  const last = new Map(rows.map((row) => [row.uid, row])), isLast = (/** @type {Row} */ row, other = last.get(row.uid) ?? row) => row === other || wordsOf(row) === wordsOf(other);
-  const twice = new Set(rows.flatMap((row) => row.uid && !isLast(row) ? row.uid : []));
-  return twice.size ? rows.map((row) => twice.has(row.uid) ? { ...row, uid: "" } : row) : rows;
-});
+function linesOf(file, here, heads) {
+  const all = madeOnce(UNREAD_LINES, file, () => {
+    const lines = recordsIn(textOf(file)), head = lines.slice(0, MOST_BEFORE).find((line) => columnsIn(line).separator), columns = columnsIn(head ?? "");
+    const rows = [...grouped(lines.filter((line) => line.search(A_WORD) >= 0), (line) => line)].flatMap(([line, its]) => its.slice(0, uidsIn(line)[0] ? 1 : its.length).map(() => lineOf(line, columns)));
+    const times = grouped(rows.flatMap(({ uids }) => uids), (uid) => uid);
+    return rows.map((row) => ({ ...row, isSure: row.isSure && times.get(row.uids[0])?.length === 1 }));
+  });
+  const said = new Set(here.map(wordsOf)), isOfUids = isSpreadsheet(startOf(file)) || startOf(file).startsWith("%PDF") || (kindOf(file) !== "table" || file.isOut) && !all.some((row) => wordsOf(row) && said.has(wordsOf(row)));
+  const others = (/** @type {Row} */ { cells }) => cells.filter((cell) => !heads.has(cell.toLowerCase())).length;
+  const first = all.findIndex(({ isItem, cells }) => isItem || cells.length > 1), at = all.slice(0, MOST_BEFORE).findIndex((row) => !row.isItem && others(row) < Math.min(row.cells.length, 2));
+  return isOfUids ? all.flatMap(({ uids }) => uids.map((uid) => ({ uids: [uid], isSure: true, cells: [], most: 0, isItem: true })))
+    : all.filter((_, number) => number >= first && number !== at);
+}
 
 /**
- * A line of a catalogue. Its UID is sure in the column uid, unless there are more cells than headings; and where there are no headings, if
- * it has no other.
+ * A line of a table. It is known by its UID if it has as many cells as there are headings, and nothing else that may be an item.
  * @param {string} line
  * @param {ReturnType<typeof columnsIn>} columns
- * @param {boolean} mayBeHeads
  * @returns {Row}
  */
-function readRow(line, { separator, heads }, mayBeHeads) {
-  const read = separator ? cellsOf(line, separator) : [], at = heads.indexOf("uid"), its = read[at] ?? "", digits = digitsOf(its), uids = uidsIn(line);
-  const isRead = read.length === heads.length || read.length < heads.length && A_UID.test(digits), isOnly = !separator && uids.length === 1 && line.search(NONE) < 0;
-  const all = isRead ? read : line.split(/[,;\t|]/).map((cell) => cell.replace(/^["\s]+|["\s]+$/g, "")), uid = isOnly ? uids[0] : isRead && A_UID.test(digits) ? digits : "";
-  const cells = all.filter((cell, place) => cell && !(isRead && place === at) && !/^none$/i.test(cell)), own = uid ? [uid] : isRead ? uidsIn(its) : uids;
-  return { uid, own, uids, cells, most: isRead ? MOST_TOLD : MOST_OF_LINE, line, mayBeHeads };
+function lineOf(line, { separator, heads }) {
+  const read = separator ? cellsOf(line, separator) : [], isRead = read.length > 0 && read.length === heads.length, at = isRead ? heads.indexOf("uid") : -1;
+  const all = isRead ? read : line.split(/[,;\t|]/).map((cell) => cell.replace(/^["\s]+|["\s]+$/g, "")), found = line.match(ITEM) ?? [], uids = uidsIn(line);
+  const its = all[at] ?? "", isNone = /^none$/i.test(its), isClear = isRead && found.length < 2 && (isNone || MEANT.test(its));
+  const cells = all.filter((cell, place) => cell && !/^none$/i.test(cell) && !(place === at && MEANT.test(cell)));
+  return { uids, isSure: isClear && A_UID.test(its.replace(FILLERS, "")), cells, most: isClear ? MOST_TOLD : MOST_OF_LINE, isItem: found.length > 0 };
 }
