@@ -4,6 +4,7 @@ import { grouped, madeOnce } from "./judge/groups.mjs";
 
 /** @typedef {import("./opened.mjs").Entry} Entry */
 /** @typedef {import("./judge/objects.mjs").CollectionObject} CollectionObject */
+/** @typedef {Pick<CollectionObject, "items" | "columns">} Catalogue */
 /**
  * A row, or a line that may be one: its UIDs, and whether it is known by them alone; its other cells, how many of these are shown, and once they
  * are asked for, the words in them; whether there is an item in it for sure.
@@ -14,8 +15,8 @@ import { grouped, madeOnce } from "./judge/groups.mjs";
 const MOST_BEFORE = 9, MOST_TOLD = 2, MOST_OF_LINE = 12;
 /** A UID in a text, what isn't read between its digits, and what may be meant for one; what says that there is a row; a word. */
 const UIDS = /E[ :-]*0(?:[ :-]*[0-9A-F]){14}(?![0-9A-F])/gi, A_UID = /^E0[0-9A-F]{14}$/i, FILLERS = /[ \t:-]/g, MEANT = /^[0-9A-FO\s:.,+-]{0,24}$/i, ITEM = RegExp(`${UIDS.source}|none`, "gi"), A_WORD = /[\p{L}\p{M}\p{N}]+/gu;
-/** The rows of catalogues as the library has read them, and the lines of others. */
-const READ = /** @type {WeakMap<Entry, Row[]>} */ (new WeakMap()), UNREAD_LINES = /** @type {WeakMap<Entry, Row[]>} */ (new WeakMap());
+/** Catalogues as the library has read them, with their rows, and the lines of others. */
+const READ = /** @type {WeakMap<Entry, Catalogue>} */ (new WeakMap()), ROWS = /** @type {WeakMap<Entry, Row[]>} */ (new WeakMap()), UNREAD_LINES = /** @type {WeakMap<Entry, Row[]>} */ (new WeakMap());
 
 /**
  * The UIDs in a text, each once.
@@ -46,17 +47,24 @@ export const namesUids = (file) => textOf(file).search(UIDS) >= 0;
 const wordsOf = (row) => row.words ??= (row.cells.join("\n").normalize("NFC").replace(ITEM, " ").match(A_WORD) ?? []).join(" ");
 
 /**
+ * The rows of a catalogue as the library has read it.
+ * @param {Entry} file
+ * @param {Catalogue} read
+ */
+const rowsOf = (file, { items, columns }) => madeOnce(ROWS, file, (own = columns.findIndex((head) => /^[ \t]*uid[ \t]*$/i.test(head))) => items.map(({ uid, cells = [] }) =>
+  ({ uids: uid ? [uid] : [], isSure: uid !== null, isItem: true, most: MOST_TOLD, cells: cells.filter((cell, at) => cell && at !== own) })));
+
+/**
  * The items that are lost with files that were here before, and by what that is known.
  * @param {CollectionObject} object
  * @param {Entry} catalogue
  * @param {Entry[]} before
  */
 export function lostIn({ items, unexpected, columns }, catalogue, before) {
-  const own = columns.findIndex((head) => /^[ \t]*uid[ \t]*$/i.test(head)), heads = new Set(columns.map((head) => head.trim().toLowerCase()));
-  const here = madeOnce(READ, catalogue, () => items.map(({ uid, cells = [] }) => ({ uids: uid ? [uid] : [], isSure: uid !== null, isItem: true, most: MOST_TOLD,
-    cells: cells.filter((cell, at) => cell && at !== own) })));
-  const known = new Set((before.length ? [...items, ...unexpected] : []).map(({ uid }) => uid ?? ""));
-  const files = before.map((file) => ({ file, lost: goneOf(READ.get(file) ?? linesOf(file, here, heads), here, known) })).filter(({ lost }) => lost.length);
+  READ.set(catalogue, { items, columns });
+  if (!before.length) return { rows: [], key: "", names: [] };
+  const here = rowsOf(catalogue, { items, columns }), heads = new Set(columns.map((head) => head.trim().toLowerCase())), known = new Set([...items, ...unexpected].map(({ uid }) => uid ?? ""));
+  const files = before.map((file, _, __, read = READ.get(file)) => ({ file, lost: goneOf(read ? rowsOf(file, read) : linesOf(file, here, heads), here, known) })).filter(({ lost }) => lost.length);
   const rows = new Map(files.flatMap(({ lost }) => [...grouped(lost, (row) => `${row.uids} ${wordsOf(row)}`)].flatMap(([key, its]) =>
     its.map(({ cells, most, uids }, nth) => /** @type {[string, string]} */ ([`${key} ${nth}`, cells.slice(0, most).join(" \u00B7 ") || `${uids}`])))));
   return { rows: [...rows.values()], key: `${files.map(({ file }) => file.id)}: ${[...rows.keys()]}`, names: [...new Set(files.map(({ file }) => file.name))] };
@@ -87,7 +95,7 @@ function goneOf(rows, here, known) {
  */
 function linesOf(file, here, heads) {
   const all = madeOnce(UNREAD_LINES, file, () => {
-    const lines = recordsIn(textOf(file)), head = lines.slice(0, MOST_BEFORE).find((line) => columnsIn(line).separator), columns = columnsIn(head ?? "");
+    const text = textOf(file), lines = kindOf(file) === "table" || text.search(UIDS) >= 0 ? recordsIn(text) : [], head = lines.slice(0, MOST_BEFORE).find((line) => columnsIn(line).separator), columns = columnsIn(head ?? "");
     const rows = [...grouped(lines.filter((line) => line.search(A_WORD) >= 0), (line) => line)].flatMap(([line, its]) => its.slice(0, uidsIn(line)[0] ? 1 : its.length).map(() => lineOf(line, columns)));
     const times = grouped(rows.flatMap(({ uids }) => uids), (uid) => uid);
     return rows.map((row) => ({ ...row, isSure: row.isSure && times.get(row.uids[0])?.length === 1 }));

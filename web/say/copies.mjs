@@ -22,7 +22,7 @@ const COUNTS = "If the newer one counts, open it once more.", ALL_COUNT = "If th
 const ONE_FILE = "One is a copy: leave out that of the shelf that wasn't counted, and count there.", OLDER = "may be an older log of the same shelf: leave out the older.";
 const OVERLAP = "The fields of two readers may overlap. If not, a log is an older one, or items were carried in between: count these fields again.";
 /** Rows that are gone; and a page that came by http is given no sums. */
-const NO_ROW = "What is missing stays missing without its row: open the catalogue with that again, unless nobody expects it here.";
+const NO_ROW = "What is missing stays missing without its row: open the catalogue with that again, unless nobody expects it here, or another row has it.";
 const WHICH = "Of one field only one log counts: which?", NO_SUMS = "One may be a copy of another: by http the browser can't compare them. Open this page as a file, or by https, and there all files.";
 
 /**
@@ -160,10 +160,10 @@ export function older(files, both = []) {
  * @returns {Doubt[]}
  */
 export function withoutRow({ lost: { rows, key, names } = { rows: [], key: "", names: [] } }) {
-  const gone = rows.map(printable), [have, they] = gone[1] ? ["have", "They aren't"] : ["has", "It isn't"], [as, more] = names[1] ? ["they were", "have"] : ["it was", "has"];
+  const gone = rows.map(printable), [have, answer] = gone[1] ? ["have", "They aren't expected any more, or are in other rows"] : ["has", "It isn't expected any more, or is in another row"], [as, more] = names[1] ? ["they were", "have"] : ["it was", "has"];
   return !gone.length ? [] : [{ mayNotCount: true, late: [], short: `${count(gone.length, "item")} of a table that was here ${have} no row now: ${firstOf(gone)}`, cure: NO_ROW,
     words: `${firstOf(names.map(nameOf), "and", MOST_LISTED)} as ${as} here before ${more} ${count(gone.length, "more item")}, of which no log tells: ${firstOf(gone, "and", MOST_LISTED)}.`,
-    buttons: [[`${they} expected any more`, { "data-both": `no row of ${key}` }]] }];
+    buttons: [[answer, { "data-both": `no row of ${key}` }]] }];
 }
 
 /**
