@@ -1294,7 +1294,7 @@ ROWS_OF_C = {
     "a note of another tag": b"note,uid,title,place\n,E0040100000000A1,Emma,A\n,E0040100000000B2,"
                              b"Walden,B\nwith E0:04:01:00:00:00:00:A1,E0040100000000C3,Kim,A\n",
     "a tab before it": b"note\tuid\ttitle\nE0\tE0:04:01:00:00:00:00:C3\tKim\n",
-    "refused": b"with,uid,place\nE0040100000000A1,E0040100000000C3,A\n",
+    "refused": b"with,uid,title,place\nE0040100000000A1,E0040100000000C3,Kim,A\n",
     "none in its cell": BOTH + b"none,Kim E0040100000000C3,A\n",
     "two rows in a line": BOTH + b"E0040100000000A1,Emma,AE0040100000000C3,Kim,A\n",
     "broken UTF-16": b"\xff\xfe" + (BOTH + b"E0040100000000C3,Kim,A\n").decode().encode(
@@ -1309,10 +1309,8 @@ def test_a_row_is_known_by_its_own_cell(page, how):
     drop(page, {"books.csv": BOTH}, {"books.csv": NOON + HOUR})
     page.until("h1", "but 1 item of a table that was here has no row now: ")
     drop(page, {"books.csv": BOTH + b"E0040100000000C3,Kim,A\n"}, {"books.csv": NOON + 2 * HOUR})
-    # of a line in which there may be several rows, or that says something else now, it is asked
-    more = {"two rows in a line": f"{UID_A:016X} \u00B7 Emma \u00B7 A{UID_C:016X} \u00B7 Kim "
-                                  "\u00B7 A",
-            "refused": f"{UID_A:016X} \u00B7 A"}.get(how)
+    # of a line in which there may be several rows it is asked
+    more = f"{UID_A:016X} \u00B7 Emma \u00B7 A{UID_C:016X} \u00B7 Kim \u00B7 A" * ("two" in how)
     asked = f"; 1 item of a table that was here has no row now: {more}" if more else ""
     assert page.texts("h1") == [f"1 item missing (Kim, of A){asked}."]
 
@@ -1423,6 +1421,18 @@ TAGLESS = {
         ["RFID,title,place,note", f"{EMMA},", f",Map,A,with {UID_A:016X}"],
         [f"{HEAD},note", f"{EMMA},"], A_ROW),
     "in the first line, away": ([",Map,A,away", f"{EMMA},"], [f"{HEAD},away", f"{EMMA},"], A_ROW),
+    "in the first lines, without headings": (
+        ["Map;", "Globe;", f"Emma;{UID_A:016X}"], ["title;uid", f"Emma;{UID_A:016X}"],
+        "2 items of a table that was here have no row now: Map and Globe."),
+    "above headings that are the last line": (
+        ["Map;", f"Emma;{UID_A:016X}", "title;uid"], ["title;uid", f"Emma;{UID_A:016X}"],
+        "has no row now: Map."),
+    "without headings, away": (
+        [f"{UID_A:016X},Emma,", ",Map,away"], ["uid,title,away", f"{UID_A:016X},Emma,"],
+        "has no row now: Map \u00B7 away."),
+    "twice, beside the UID of another": (
+        [f"{HEAD},part of", f"{EMMA},", *[f"none,Map,A,{UID_A:016X}"] * 2],
+        [HEAD, EMMA, f"{UID_B:016X},Map,A"], "1 item of a table"),
     "below a title and a wrong heading": (
         ["Books,,", "RFID,title,place", EMMA, ",Map,A"], [HEAD, EMMA], "but 1 item of a table"),
     "below headings of another separator": (
@@ -1431,7 +1441,8 @@ TAGLESS = {
     "with a letter in another coding": ([HEAD, EMMA, "none,Caf\udce9,A"],
                                         [HEAD, EMMA, "none,Caf\u00e9,A"], ""),
     "with a line break in a cell": ([HEAD, f'{UID_A:016X},"Emma', 'or more",A', "none,Map,A"],
-                                    [HEAD, f"{UID_A:016X},Emma or more,A", "none,Map,A"], ""),
+                                    [HEAD, f"{UID_A:016X},Emma or more,A", "none,Map,A"],
+                                    "1 item of a table that was here has no row now: or more"),
     "without its last cell, tagged": ([HEAD, f"{UID_A:016X},Emma", ",Map,A"],
                                       [HEAD, EMMA, "none,Map,A"], ""),
     "between bars": ([HEAD.replace(",", "|"), EMMA.replace(",", "|"), "none|Map|A"],
@@ -1703,6 +1714,9 @@ OLDER_THAN_GONE = {
         (COMPLETE, 0), ({"export.csv": BOTH.decode().encode("utf-16-le")}, 1)),
     "a table of places, of which none is here": (
         (COMPLETE, 0), ({"places.csv": b"place,log\nA,A\nB,B\nC,C\n"}, 1), "Back"),
+    "that is nearly a table of places": (
+        ({**COMPLETE, "places.csv": b"place,log\nA,A\nB,B\n"}, 0),
+        ({"places dec.csv": b"place,logs\nA,A\nB,B\nB,C\n"}, 1)),
     "of no place, where there are none any more": (
         ({"books.csv": books(*[(uid, ",any") for uid in (UID_A, UID_B, UID_C)]),
           "scan.log": field(UID_A), "B.log": field(UID_B, UID_C)}, 0),

@@ -1,5 +1,5 @@
 /** Which open files are older than what was here since the page was empty. */
-import { hasUids, isBroken, isPlaces, isSpreadsheet, isStrange, kindOf, startOf, stemOf, surveyedIn, uncopied } from "./judge/files.mjs";
+import { hasUids, headsOf, isBroken, isPlaces, isSpreadsheet, isStrange, kindOf, startOf, stemOf, surveyedIn, uncopied } from "./judge/files.mjs";
 import { grouped, madeOnce } from "./judge/groups.mjs";
 import { lostIn, namesUids } from "./rows.mjs";
 import { SENTENCES } from "./say/sentences.mjs";
@@ -26,11 +26,17 @@ const AWAY = /** @type {WeakMap<Entry[], Map<string | null, Entry[]>>} */ (new W
 export const isATable = (entry) => kindOf(entry) === "table", isCatalogue = (/** @type {Entry} */ entry) => isATable(entry) && !isPlaces(entry);
 
 /**
+ * Whether a table may have been meant for one of places.
+ * @param {Entry} entry
+ */
+const isLikePlaces = (entry) => isATable(entry) && headsOf(entry).some((head) => head === "place" || head === "log");
+
+/**
  * Why a file belongs to no collection; empty if it may.
  * @param {Entry} entry
  */
 export const strangeness = (entry) => kindOf(entry) !== "other" && (!isCatalogue(entry) || hasUids(entry)) ? "" : isBroken(entry) ? SENTENCES.tables.utf16[0]
-  : kindOf(entry) === "other" ? NO_LOG : isSpreadsheet(startOf(entry)) ? "save a spreadsheet as CSV" : "a catalogue has a column 'uid'";
+  : kindOf(entry) === "other" ? NO_LOG : isSpreadsheet(startOf(entry)) ? "save a spreadsheet as CSV" : isLikePlaces(entry) ? "a catalogue has a column 'uid', a table of places 'place' and 'log'" : "a catalogue has a column 'uid'";
 
 /**
  * A name as other counts of the same have it: without folders, and without an ending that is no number; and as it will be when it is whole.
@@ -66,12 +72,13 @@ const ageOf = ({ changed = Infinity }) => changed;
 const isEqual = ({ text: one }, { text: other }) => one.length > 0 && one.length === other.length && one.every((byte, at) => byte === other[at]);
 
 /**
- * What isn't open any more, also by no other name if a tag was heard in it; but what by its bytes was no log and no table, and what was typed.
+ * What isn't open any more, also by no other name if a tag was heard in it; but what by its bytes was no log and no table, and what was typed. One that
+ * couldn't be read is open again if one of its name and date is.
  * @param {Entry[]} seen
  * @param {Entry[]} open
  */
 export const awayOf = (seen, open, byDate = grouped(open, ageOf)) => seen.filter((it) => (!it.made || isATable(it)) && !(isStrange(it) && isNeither(it)) && !byDate.get(ageOf(it))
-  ?.some((other) => (other.id === it.id || isEqual(other, it)) && (it.name === (other.was ?? other.name) || heardIn(it).length > 0)));
+  ?.some((other) => (other.id === it.id || isEqual(other, it) || it.error && other.name === it.name) && (it.name === (other.was ?? other.name) || heardIn(it).length > 0)));
 
 /**
  * Whether a file is no log and no table, whatever is wrong with it.
@@ -140,7 +147,7 @@ function comparing(open, { items, unexpected, logs: all, without_log }) {
   const at = grouped(logs.filter(({ into }) => typeof into.place === "string"), ({ into }) => into.place ?? null), isPlaced = all.some(({ place, left_over }) => place !== null || left_over), places = new Set([...at.keys(), ...without_log]);
   const proved = new Map([...items, ...unexpected].map(({ uid, certain_in }) => [uid, certain_in.flatMap((it) => byInto.get(all[it]) ?? [])]));
   return (gone) => {
-    const called = strangeness(gone) ? open.filter(({ name, file }) => [name, file.name].map(rootOf).includes(rootOf(gone.name))) : [];
+    const called = strangeness(gone) ? open.filter(({ name, file }) => [name, file.name].map(rootOf).includes(rootOf(gone.name)) || isPlaces(file) && isLikePlaces(gone)) : [];
     const whole = gone.name.replace(UNFINISHED, ""), isTable = isATable(gone) && (!strangeness(gone) || namesUids(gone));
     const its = isTable ? tables.filter(({ file }) => isPlaces(file) === isPlaces(gone)) : whole === gone.name ? [] : open.filter(({ file }) => !file.was && file.name === whole);
     if (its.length || isTable) return its.length ? [...its, ...called] : open;

@@ -6,13 +6,14 @@ import { grouped, madeOnce } from "./judge/groups.mjs";
 /** @typedef {import("./judge/objects.mjs").CollectionObject} CollectionObject */
 /** @typedef {Pick<CollectionObject, "items" | "columns">} Catalogue */
 /**
- * A row, or a line that may be one: its UIDs, and whether it is known by them alone; its other cells, how many of these are shown, and once they
- * are asked for, the words in them; whether there is an item in it for sure.
- * @typedef {{uids: string[], isSure: boolean, cells: string[], most: number, words?: string, isItem: boolean}} Row
+ * A row, or a line that may be one: its UIDs, and whether it is known by them alone; whether there is an item in it for sure, and no cell is blank;
+ * its other cells, how many of these are shown, and once they are asked for, the words in them.
+ * @typedef {{uids: string[], isSure: boolean, isItem: boolean, isFull: boolean, cells: string[], most: number, words?: string}} Row
  */
 
-/** Within how many lines the headings are; how many cells show which row one is, and one of which it isn't known where its cells end. */
-const MOST_BEFORE = 9, MOST_TOLD = 2, MOST_OF_LINE = 12;
+/** Within how many lines the headings are; how many cells show which row one is, and one of which it isn't known where its cells end; how long a line of
+ *  a table is at most. */
+const MOST_BEFORE = 9, MOST_TOLD = 2, MOST_OF_LINE = 12, LONGEST_LINE = 16_384;
 /** A UID in a text, what isn't read between its digits, and what may be meant for one; what says that there is a row; a word. */
 const UIDS = /E[ :-]*0(?:[ :-]*[0-9A-F]){14}(?![0-9A-F])/gi, A_UID = /^E0[0-9A-F]{14}$/i, FILLERS = /[ \t:-]/g, MEANT = /^[0-9A-FO\s:.,+-]{0,24}$/i, ITEM = RegExp(`${UIDS.source}|none`, "gi"), A_WORD = /[\p{L}\p{M}\p{N}]+/gu;
 /** Catalogues as the library has read them, with their rows, and the lines of others. */
@@ -23,16 +24,6 @@ const READ = /** @type {WeakMap<Entry, Catalogue>} */ (new WeakMap()), ROWS = /*
  * @param {string} text
  */
 const uidsIn = (text) => [...new Set(text.match(UIDS)?.map((uid) => uid.replace(FILLERS, "").toUpperCase()))];
-
-/**
- * The lines of a table; two are one if a quote is open between them.
- * @param {string} text
- */
-function recordsIn(text) {
-  const lines = text.split(/\r\n?|\n/), isOpen = lines.map((line) => line.split('"').length % 2 === 0), records = [];
-  for (let at = 0; at < lines.length; at += 1) records.push(isOpen[at] && isOpen[at + 1] ? `${lines[at]} ${lines[at += 1]}` : lines[at]);
-  return records;
-}
 
 /**
  * Whether there is a UID in a file.
@@ -52,7 +43,7 @@ const wordsOf = (row) => row.words ??= (row.cells.join("\n").normalize("NFC").re
  * @param {Catalogue} read
  */
 const rowsOf = (file, { items, columns }) => madeOnce(ROWS, file, (own = columns.findIndex((head) => /^[ \t]*uid[ \t]*$/i.test(head))) => items.map(({ uid, cells = [] }) =>
-  ({ uids: uid ? [uid] : [], isSure: uid !== null, isItem: true, most: MOST_TOLD, cells: cells.filter((cell, at) => cell && at !== own) })));
+  ({ uids: uid ? [uid] : [], isSure: uid !== null, isItem: true, isFull: true, most: MOST_TOLD, cells: cells.filter((cell, at) => cell && at !== own) })));
 
 /**
  * The items that are lost with files that were here before, and by what that is known.
@@ -87,24 +78,33 @@ function goneOf(rows, here, known) {
 }
 
 /**
- * The lines of a table that the library hasn't read, but titles above all others, and headings that are here but for one. Of a file that wasn't
- * the catalogue, and has no row that is here, only its UIDs count.
+ * The lines of a table that the library hasn't read, but headings that are here, also if that of the UIDs has another name, or one is gone, and
+ * titles right above these. Of a file that wasn't the catalogue, and has no row that is here, only its UIDs count.
  * @param {Entry} file
  * @param {Row[]} here
  * @param {Set<string>} heads
  */
 function linesOf(file, here, heads) {
-  const all = madeOnce(UNREAD_LINES, file, () => {
-    const text = textOf(file), lines = kindOf(file) === "table" || text.search(UIDS) >= 0 ? recordsIn(text) : [], head = lines.slice(0, MOST_BEFORE).find((line) => columnsIn(line).separator), columns = columnsIn(head ?? "");
-    const rows = [...grouped(lines.filter((line) => line.search(A_WORD) >= 0), (line) => line)].flatMap(([line, its]) => its.slice(0, uidsIn(line)[0] ? 1 : its.length).map(() => lineOf(line, columns)));
-    const times = grouped(rows.flatMap(({ uids }) => uids), (uid) => uid);
-    return rows.map((row) => ({ ...row, isSure: row.isSure && times.get(row.uids[0])?.length === 1 }));
-  });
-  const said = new Set(here.map(wordsOf)), isOfUids = isSpreadsheet(startOf(file)) || startOf(file).startsWith("%PDF") || (kindOf(file) !== "table" || file.isOut) && !all.some((row) => wordsOf(row) && said.has(wordsOf(row)));
-  const others = (/** @type {Row} */ { cells }) => cells.filter((cell) => !heads.has(cell.toLowerCase())).length;
-  const first = all.findIndex(({ isItem, cells }) => isItem || cells.length > 1), at = all.slice(0, MOST_BEFORE).findIndex((row) => !row.isItem && others(row) < Math.min(row.cells.length, 2));
-  return isOfUids ? all.flatMap(({ uids }) => uids.map((uid) => ({ uids: [uid], isSure: true, cells: [], most: 0, isItem: true })))
-    : all.filter((_, number) => number >= first && number !== at);
+  const all = madeOnce(UNREAD_LINES, file, () => linesIn(textOf(file), kindOf(file) === "table")), said = new Set(here.map(wordsOf));
+  const isOfUids = isSpreadsheet(startOf(file)) || startOf(file).startsWith("%PDF") || (kindOf(file) !== "table" || file.isOut) && !all.some((row) => wordsOf(row) && said.has(wordsOf(row)));
+  if (isOfUids) return all.flatMap(({ uids }) => uids.map((uid) => ({ uids: [uid], isSure: true, isItem: true, isFull: true, cells: [], most: 0 })));
+  const isHeads = (/** @type {Row} */ { cells, isItem, isFull }, names = cells.map((cell) => cell.toLowerCase()), others = names.filter((name) => !heads.has(name)).length) =>
+    !isItem && names.length > others && (!others || others === 1 && isFull && (!names.includes("uid") || [...heads].every((head) => names.includes(head))));
+  const at = all.slice(0, MOST_BEFORE).findIndex((row) => isHeads(row)), first = all.findIndex(({ isItem, cells }) => isItem || cells.length > 1);
+  return first === at ? all.slice(at + 1) : all.filter((_, number) => number !== at);
+}
+
+/**
+ * The lines of a text in which there are words, if it is a table or has UIDs. Of those with a UID that others have none is known by that alone, and
+ * of equal ones with a UID one counts.
+ * @param {string} text
+ * @param {boolean} isTable
+ */
+function linesIn(text, isTable) {
+  const lines = isTable || text.search(UIDS) >= 0 ? text.split(/\r\n?|\n/) : [], columns = columnsIn(lines.slice(0, MOST_BEFORE).find((line) => columnsIn(line).separator) ?? "");
+  const rows = [...grouped(lines.filter((line) => line.search(A_WORD) >= 0), (line) => line)].flatMap(([line, its], _, __, row = lineOf(line, columns)) => row.isSure ? row : its.map(() => row));
+  const times = grouped(rows.flatMap(({ uids }) => uids), (uid) => uid);
+  return rows.map((row) => ({ ...row, isSure: row.isSure && times.get(row.uids[0])?.length === 1 }));
 }
 
 /**
@@ -114,9 +114,9 @@ function linesOf(file, here, heads) {
  * @returns {Row}
  */
 function lineOf(line, { separator, heads }) {
-  const read = separator ? cellsOf(line, separator) : [], isRead = read.length > 0 && read.length === heads.length, at = isRead ? heads.indexOf("uid") : -1;
-  const all = isRead ? read : line.split(/[,;\t|]/).map((cell) => cell.replace(/^["\s]+|["\s]+$/g, "")), found = line.match(ITEM) ?? [], uids = uidsIn(line);
-  const its = all[at] ?? "", isNone = /^none$/i.test(its), isClear = isRead && found.length < 2 && (isNone || MEANT.test(its));
+  const isLong = line.length > LONGEST_LINE, read = separator && !isLong ? cellsOf(line, separator) : [], isRead = read.length > 0 && read.length === heads.length, at = isRead ? heads.indexOf("uid") : -1;
+  const all = isRead ? read : isLong ? [line] : line.split(/[,;\t|]/).map((cell) => cell.trim().replace(/^"|"$/g, "").trim()), found = line.match(ITEM) ?? [], uids = uidsIn(line);
+  const its = all[at] ?? "", isClear = isRead && found.length < 2 && (/^none$/i.test(its) || MEANT.test(its));
   const cells = all.filter((cell, place) => cell && !/^none$/i.test(cell) && !(place === at && MEANT.test(cell)));
-  return { uids, isSure: isClear && A_UID.test(its.replace(FILLERS, "")), cells, most: isClear ? MOST_TOLD : MOST_OF_LINE, isItem: found.length > 0 };
+  return { uids, isSure: isClear && A_UID.test(its.replace(FILLERS, "")), isItem: found.length > 0, isFull: all.every((cell) => cell), cells, most: isClear ? MOST_TOLD : MOST_OF_LINE };
 }

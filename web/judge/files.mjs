@@ -7,7 +7,9 @@ const SURVEYS = "vicinity-survey ", A_SURVEY = /^vicinity-survey \d+ ([^\r\n]*)/
 /** How a file of a spreadsheet program begins, read as UTF-8: packed as ZIP (.xlsx, .ods, .numbers), or as OLE has it (.xls). */
 const SPREADSHEET = /^(?:PK\x03\x04|\uFFFD\uFFFD\x11[\u0871\uFFFD])/;
 /** The cells of a line of a table, by what stands between them. @type {Record<string, RegExp>} */
-const CELLS = Object.fromEntries([",", ";", "\t"].map((separator) => [separator, new RegExp(`("(?:[^"]|"")*"|[^${separator}"]*)(?:${separator}|$)`, "g")]));
+const CELLS = Object.fromEntries([",", ";", "\t"].map((separator) => [separator, new RegExp(`("(?:[^"]|"")*"|[^${separator}"]*)(?:${separator}|$)`, "gy")]));
+/** A cell without what stands around it. */
+const ENDS = /^[ \t]*((?:[ \t]*[^ \t]+)*)[ \t]*$/;
 /** A PDF, or another file that is no text in any coding. */
 const NO_TEXT_AT_ALL = /^%PDF|^(?=[^]*\0)[^]*\uFFFD/;
 /** How the name of a table ends. */
@@ -86,7 +88,7 @@ export const hasUids = (file) => headsOf(file).includes("uid"), isPlaces = (/** 
  */
 export function cellsOf(line, separator) {
   const found = Array.from(line.matchAll(CELLS[separator])), cells = line === "" || line.endsWith(separator) ? found : found.slice(0, -1);
-  return cells.map(([all]) => all).join("") !== line ? [] : cells.map(([, cell]) => (cell[0] === '"' ? cell.slice(1, -1).replace(/""/g, '"') : cell).replace(/^[ \t]+|[ \t]+$/g, ""));
+  return cells.map(([all]) => all).join("") !== line ? [] : cells.map(([, cell]) => (cell[0] === '"' ? cell.slice(1, -1).replace(/""/g, '"') : cell).replace(ENDS, "$1"));
 }
 
 /**
