@@ -1991,6 +1991,20 @@ def test_a_file_that_becomes_whole_takes_its_own_place(page):
                                    "name."]
 
 
+def test_a_file_that_could_not_be_read_is_opened_again(page):
+    """By its name and date it is the same: another one may be older than it."""
+    drop(page, COMPLETE, {name: NOON - HOUR for name in COMPLETE})
+    page.run("window.whole = File.prototype.arrayBuffer;"
+             "File.prototype.arrayBuffer = () => Promise.reject(new Error())")
+    drop(page, {"B.log": field(UID_B)}, {"B.log": NOON})
+    page.until(".error", "B.log: it can't be read")
+    page.run("File.prototype.arrayBuffer = window.whole")
+    for date, asks in (NOON, False), (NOON - 1, True):
+        drop(page, {"B.log": field(UID_B)}, {"B.log": date})
+        page.until("h1", "but books.csv and the logs of A and B are older" if asks else
+                   "All 2 expected items are here, and no others.")
+
+
 def test_an_older_table_of_places_is_asked_about(page):
     files = {**COMPLETE, "p.csv": b"place,log\nA,A\nB,B\n"}
     drop(page, files, {name: NOON for name in files})

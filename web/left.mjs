@@ -78,7 +78,7 @@ const isEqual = ({ text: one }, { text: other }) => one.length > 0 && one.length
  * @param {Entry[]} open
  */
 export const awayOf = (seen, open, byDate = grouped(open, ageOf)) => seen.filter((it) => (!it.made || isATable(it)) && !(isStrange(it) && isNeither(it)) && !byDate.get(ageOf(it))
-  ?.some((other) => (other.id === it.id || isEqual(other, it) || it.error && other.name === it.name) && (it.name === (other.was ?? other.name) || heardIn(it).length > 0)));
+  ?.some((other) => (other.id === it.id || isEqual(other, it) || it.error && !it.text.length && other.name === it.name) && (it.name === (other.was ?? other.name) || heardIn(it).length > 0)));
 
 /**
  * Whether a file is no log and no table, whatever is wrong with it.
