@@ -1433,8 +1433,24 @@ TAGLESS = {
     "twice, beside the UID of another": (
         [f"{HEAD},part of", f"{EMMA},", *[f"none,Map,A,{UID_A:016X}"] * 2],
         [HEAD, EMMA, f"{UID_B:016X},Map,A"], "1 item of a table"),
+    "of two filled cells above the headings": (
+        ["-,Map", ",Globe", "uid,title", f"{UID_A:016X},Emma"], ["uid,title", f"{UID_A:016X},Emma"],
+        "2 items of a table that was here have no row now: Map and Globe."),
+    "away, beside another renamed column": (
+        ["uid,title,status", f"{UID_A:016X},Emma,", "-,Map,away"],
+        ["uid,title,away", f"{UID_A:016X},Emma,"], "has no row now: Map \u00B7 away."),
+    "away, in rows that are cut at their ends": (
+        [f"Emma,,{UID_A:016X}", "Map,away"], ["title,away,uid", f"Emma,,{UID_A:016X}"],
+        "has no row now: Map \u00B7 away."),
+    "of nothing but a UID that is none": (
+        ["uid", f"{UID_A:016X}", "E00401"], ["uid", f"{UID_A:016X}"], "has no row now: E00401."),
+    "of nothing but 'none'": (["uid", f"{UID_A:016X}", "none", "none"], ["uid", f"{UID_A:016X}"],
+                              "2 items of a table that was here have no row now: none"),
     "below a title and a wrong heading": (
         ["Books,,", "RFID,title,place", EMMA, ",Map,A"], [HEAD, EMMA], "but 1 item of a table"),
+    "in what the program has written": (
+        [f"{HEAD},vicinity state,vicinity certain in", f"{EMMA},in place,A.log"],
+        [HEAD, EMMA], ""),
     "below headings of another separator": (
         [HEAD, EMMA.replace(",", ";"), "none;Map;A"],
         [it.replace(",", ";") for it in (HEAD, EMMA, "none,Map,A")], ""),

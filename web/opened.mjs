@@ -95,7 +95,7 @@ export function gathered(taken, all) {
   if (earlier && !rest.length) return [collected({ ...earlier, left: [...past, ...left] }, `${said} The collection is still here.`)];
   const tables = rest.filter(isATable), logs = rest.filter((it) => !isATable(it));
   const isJoining = !isWhole && (earlier || !logs.length) && logs.every(({ made }) => !made), isLoose = !tables.length && !(isJoining && earlier);
-  const what = earlier ? `${first.name}, ${count(before.length, "log")}` : firstOf(before.map(({ name }) => name), "and", MOST_LISTED);
+  const what = earlier ? [...earlier.tables.map(({ name }) => name), count(before.length, "log")].join(", ") : firstOf(before.map(({ name }) => name), "and", MOST_LISTED);
   const isClosed = first && !isJoining && (earlier || !isLoose), closed = { name: `What was here (${what})`, how: "closed" };
   const over = isClosed ? earlier ? [] : [closed] : past, note = isClosed ? `${wasEach([closed])[0]} ` : "";
   if (isLoose) {

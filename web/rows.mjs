@@ -6,9 +6,10 @@ import { grouped, madeOnce } from "./judge/groups.mjs";
 /** @typedef {import("./judge/objects.mjs").CollectionObject} CollectionObject */
 /** @typedef {Pick<CollectionObject, "items" | "columns">} Catalogue */
 /**
- * A row, or a line that may be one: its UIDs, and whether it is known by them alone; whether there is an item in it for sure, and no cell is blank;
- * its other cells, how many of these are shown, and once they are asked for, the words in them.
- * @typedef {{uids: string[], isSure: boolean, isItem: boolean, isFull: boolean, cells: string[], most: number, words?: string}} Row
+ * A row, or a line that may be one: its UIDs, and whether it is known by them alone; whether there is an item in it for sure, no cell is blank, and it
+ * may be a title; its other cells, how many of these are shown, all of it, and once they are asked for, the words in these cells.
+ * @typedef {{uids: string[], isSure: boolean, isItem: boolean, isFull: boolean, isTitle: boolean, cells: string[], most: number, line: string,
+ *   words?: string}} Row
  */
 
 /** Within how many lines the headings are; how many cells show which row one is, and one of which it isn't known where its cells end; how long a line of
@@ -43,7 +44,7 @@ const wordsOf = (row) => row.words ??= (row.cells.join("\n").normalize("NFC").re
  * @param {Catalogue} read
  */
 const rowsOf = (file, { items, columns }) => madeOnce(ROWS, file, (own = columns.findIndex((head) => /^[ \t]*uid[ \t]*$/i.test(head))) => items.map(({ uid, cells = [] }) =>
-  ({ uids: uid ? [uid] : [], isSure: uid !== null, isItem: true, isFull: true, most: MOST_TOLD, cells: cells.filter((cell, at) => cell && at !== own) })));
+  ({ uids: uid ? [uid] : [], isSure: uid !== null, isItem: true, isFull: true, isTitle: false, most: MOST_TOLD, line: uid ?? "none", cells: cells.filter((cell, at) => cell && at !== own) })));
 
 /**
  * The items that are lost with files that were here before, and by what that is known.
@@ -57,7 +58,7 @@ export function lostIn({ items, unexpected, columns }, catalogue, before) {
   const here = rowsOf(catalogue, { items, columns }), heads = new Set(columns.map((head) => head.trim().toLowerCase())), known = new Set([...items, ...unexpected].map(({ uid }) => uid ?? ""));
   const files = before.map((file, _, __, read = READ.get(file)) => ({ file, lost: goneOf(read ? rowsOf(file, read) : linesOf(file, here, heads), here, known) })).filter(({ lost }) => lost.length);
   const rows = new Map(files.flatMap(({ lost }) => [...grouped(lost, (row) => `${row.uids} ${wordsOf(row)}`)].flatMap(([key, its]) =>
-    its.map(({ cells, most, uids }, nth) => /** @type {[string, string]} */ ([`${key} ${nth}`, cells.slice(0, most).join(" \u00B7 ") || `${uids}`])))));
+    its.map(({ cells, most, line }, nth) => /** @type {[string, string]} */ ([`${key} ${nth}`, cells.slice(0, most).join(" \u00B7 ") || line])))));
   return { rows: [...rows.values()], key: `${files.map(({ file }) => file.id)}: ${[...rows.keys()]}`, names: [...new Set(files.map(({ file }) => file.name))] };
 }
 
@@ -78,19 +79,22 @@ function goneOf(rows, here, known) {
 }
 
 /**
- * The lines of a table that the library hasn't read, but headings that are here, also if that of the UIDs has another name, or one is gone, and
- * titles right above these. Of a file that wasn't the catalogue, and has no row that is here, only its UIDs count.
+ * The lines of a table that the library hasn't read, but headings that are here, and titles right above these. One of the headings may have
+ * another name, that of the UIDs only above all rows; and several if there are rows of as many cells. Of a table that wasn't the catalogue, and has no row that is here, only its UIDs count; of
+ * another file nothing.
  * @param {Entry} file
  * @param {Row[]} here
  * @param {Set<string>} heads
  */
 function linesOf(file, here, heads) {
   const all = madeOnce(UNREAD_LINES, file, () => linesIn(textOf(file), kindOf(file) === "table")), said = new Set(here.map(wordsOf));
-  const isOfUids = isSpreadsheet(startOf(file)) || startOf(file).startsWith("%PDF") || (kindOf(file) !== "table" || file.isOut) && !all.some((row) => wordsOf(row) && said.has(wordsOf(row)));
-  if (isOfUids) return all.flatMap(({ uids }) => uids.map((uid) => ({ uids: [uid], isSure: true, isItem: true, isFull: true, cells: [], most: 0 })));
-  const isHeads = (/** @type {Row} */ { cells, isItem, isFull }, names = cells.map((cell) => cell.toLowerCase()), others = names.filter((name) => !heads.has(name)).length) =>
-    !isItem && names.length > others && (!others || others === 1 && isFull && (!names.includes("uid") || [...heads].every((head) => names.includes(head))));
-  const at = all.slice(0, MOST_BEFORE).findIndex((row) => isHeads(row)), first = all.findIndex(({ isItem, cells }) => isItem || cells.length > 1);
+  const isShared = all.some((row) => wordsOf(row) && said.has(wordsOf(row))), isPacked = isSpreadsheet(startOf(file)) || startOf(file).startsWith("%PDF");
+  if (kindOf(file) !== "table" && !isShared) return [];
+  if (isPacked || file.isOut && !isShared) return all.flatMap(({ uids }) => uids.map((uid) => lineOf(uid, columnsIn("uid"))));
+  const isRead = all.some(({ isSure }) => isSure), first = all.findIndex(({ isTitle }) => !isTitle), at = all.slice(0, MOST_BEFORE).findIndex(({ cells, isItem, isFull }, number) => {
+    const names = cells.map((cell) => cell.toLowerCase()), others = names.filter((name) => !heads.has(name)).length;
+    return !isItem && names.length > others && (!others || (names.includes("uid") ? others < 2 || isRead : others < 2 && isFull && number === first));
+  });
   return first === at ? all.slice(at + 1) : all.filter((_, number) => number !== at);
 }
 
@@ -116,7 +120,8 @@ function linesIn(text, isTable) {
 function lineOf(line, { separator, heads }) {
   const isLong = line.length > LONGEST_LINE, read = separator && !isLong ? cellsOf(line, separator) : [], isRead = read.length > 0 && read.length === heads.length, at = isRead ? heads.indexOf("uid") : -1;
   const all = isRead ? read : isLong ? [line] : line.split(/[,;\t|]/).map((cell) => cell.trim().replace(/^"|"$/g, "").trim()), found = line.match(ITEM) ?? [], uids = uidsIn(line);
-  const its = all[at] ?? "", isClear = isRead && found.length < 2 && (/^none$/i.test(its) || MEANT.test(its));
+  const its = all[at] ?? "", filled = all.filter((cell) => cell), isClear = isRead && found.length < 2 && (/^none$/i.test(its) || MEANT.test(its));
   const cells = all.filter((cell, place) => cell && !/^none$/i.test(cell) && !(place === at && MEANT.test(cell)));
-  return { uids, isSure: isClear && A_UID.test(its.replace(FILLERS, "")), isItem: found.length > 0, isFull: all.every((cell) => cell), cells, most: isClear ? MOST_TOLD : MOST_OF_LINE };
+  return { uids, isSure: isClear && A_UID.test(its.replace(FILLERS, "")), isItem: found.length > 0, isFull: filled.length === all.length, isTitle: !found.length && filled.length < 2 && all[0] !== "",
+    cells, most: isClear ? MOST_TOLD : MOST_OF_LINE, line };
 }

@@ -160,7 +160,7 @@ export function older(files, both = []) {
  * @returns {Doubt[]}
  */
 export function withoutRow({ lost: { rows, key, names } = { rows: [], key: "", names: [] } }) {
-  const gone = rows.map(printable), [have, answer] = gone[1] ? ["have", "They aren't expected any more, or are in other rows"] : ["has", "It isn't expected any more, or is in another row"], [as, more] = names[1] ? ["they were", "have"] : ["it was", "has"];
+  const gone = rows.map(printable), [have, answer] = gone.length > 1 ? ["have", "They aren't expected any more, or are in other rows"] : ["has", "It isn't expected any more, or is in another row"], [as, more] = names[1] ? ["they were", "have"] : ["it was", "has"];
   return !gone.length ? [] : [{ mayNotCount: true, late: [], short: `${count(gone.length, "item")} of a table that was here ${have} no row now: ${firstOf(gone)}`, cure: NO_ROW,
     words: `${firstOf(names.map(nameOf), "and", MOST_LISTED)} as ${as} here before ${more} ${count(gone.length, "more item")}, of which no log tells: ${firstOf(gone, "and", MOST_LISTED)}.`,
     buttons: [[answer, { "data-both": `no row of ${key}` }]] }];
