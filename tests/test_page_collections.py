@@ -1495,8 +1495,17 @@ def test_a_row_of_a_catalogue_that_a_button_left_out(page, is_back):
     pressed(page, "Leave out books.csv")
     if is_back:
         page.press("#back")
-    drop(page, {"books.csv": f"{HEAD}\n{EMMA}\n".encode()})
+    drop(page, {"books.csv": f"{HEAD},number\n{EMMA},1\n".encode()})
     page.until("h1", f"but 1 item of a table that was here has no {A_ROW}.")
+
+
+def test_a_catalogue_that_was_taken_for_a_table_of_places(page):
+    """Since it has columns place and log, and that of the UIDs another name."""
+    drop(page, {"books.csv": b"rfid,title,place,log\nE0040100000000A1,Emma,A,x\n"
+                             b"E0040100000000C3,Kim,A,x\n", "A.log": field(UID_A)})
+    drop(page, {"books 2.csv": f"{HEAD},log\n{EMMA},x\n".encode()})
+    pressed(page, "Leave out books.csv")
+    page.until("h1", "1 item of a table that was here has no row now: E0040100000000C3 \u00B7 Kim")
 
 
 def test_a_row_that_was_here_again_is_asked_about_again(page):

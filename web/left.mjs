@@ -100,7 +100,7 @@ export function putAges(object, { tables, logs }, away) {
     if (read.length) JUDGED.set(file.id, new Set([...[...JUDGED.get(file.id) ?? []].filter((place) => place !== null), ...places.map(({ into }) => into.place)]));
   }
   put([...tables.map((file, at) => ({ into: object.files[at], file, name: file.name })), ...ofLogs], away, object);
-  object.lost = lostIn(object, tables.filter(isCatalogue)[0], away.filter((it) => isCatalogue(it) || isNeither(it)));
+  object.lost = lostIn(object, tables.filter(isCatalogue)[0], away.filter((it) => isCatalogue(it) || isNeither(it) || isPlaces(it) && namesUids(it)));
 }
 
 /**

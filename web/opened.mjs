@@ -175,7 +175,7 @@ function joined(here, tables, logs, note) {
  */
 export function without({ tables, logs, both, left }, gone, kept, object) {
   const of = (/** @type {string | undefined} */ name) => object?.logs.find((log) => log.name === name), [{ name }] = gone, out = leftAs(gone, "left out");
-  for (const it of gone) it.isOut = strangeness(it) !== "";
+  for (const it of gone) it.isOut = tables.filter(isCatalogue).length > 1 && strangeness(it) !== "";
   const others = (/** @type {Entry[]} */ list) => list.filter((it) => !gone.includes(it)), takes = of(kept)?.left_over && of(name)?.place;
   const rest = { tables: others(tables), both, left: [...left, ...out], logs: calledAs(others(logs), takes && kept ? [[kept, name]] : []) };
   return rest.tables.length ? [collected(rest, [...wasEach(out), ...asOthers(rest.logs, takes ? [name] : [])].join(" "))]
